@@ -1,0 +1,4 @@
+pub mod Lists
+pub mod Steady
+pub mod Length
+pub mod Cutting
