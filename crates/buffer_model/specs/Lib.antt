@@ -1,0 +1,4 @@
+pub mod Share
+pub mod Segment
+pub mod Stake
+pub mod Laws
