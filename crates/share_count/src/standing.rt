@@ -1,0 +1,10 @@
+//! Whether others hold a storage.
+
+/// What a look at a storage's count found.
+#[derive(Debug, Clone, Copy, PartialEq, Eq)]
+pub enum Standing {
+    /// Nobody else holds the storage.
+    Sole,
+    /// Others may hold it: the weight of all live holds as it was found.
+    Shared { found: u64 },
+}
