@@ -1,0 +1,5 @@
+pub mod Answered
+pub mod Laws
+pub mod Mine
+pub mod MineLends
+pub mod NodeLends

@@ -1,0 +1,14 @@
+//! Windows on blocks: the nodes of which chains are made.
+#![tactic(auto)]
+
+mod copies;
+pub mod laws;
+mod make;
+mod mine;
+mod node;
+mod share;
+#[cfg(test)]
+mod tests;
+
+pub use mine::Mine;
+pub use node::IoBuf;

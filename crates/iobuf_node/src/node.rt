@@ -1,0 +1,221 @@
+//! Nodes.
+ghost use Rattle.std.specs.Prelude.{◌≡◌, ◌+◌, ◌-◌, ◌≤◌, ◌<◌, ◌^◌, ◌↔◌, List, [], ◌∷◌, Option, Some, None, IsTrue, IsOk, IfOk, IfErr, length};
+ghost use Rattle.buffer_model.specs.Share.{IsShare, IsWhole, IsManaged, wrapped};
+ghost use Rattle.buffer_model.specs.Segment.{Segment, whole_window, trimmed_start, trimmed_end, appended, prepended, advanced, retreated, block_of, hold_of};
+ghost use Rattle.buffer_model.specs.Stake.{held, KeepsTotals};
+ghost use Rattle.storage.specs.Back.{Bars, GivesBack, stakes_of};
+
+use crate::mine::Mine;
+use std::marker::Model;
+use storage::{Back, Barred, Managed, NoOwner, Release};
+
+/// A window on a block: some bytes, with the room before and after them. Contracts see the three lists, and what the node has of the storage.
+#[derive(Drop)]
+pub struct IoBuf<'a, O: Drop = NoOwner> {
+    pub(crate) wrapped: Option<&'a [u8]>,
+    pub(crate) window: Mine<O>,
+}
+
+impl<'a, O: Drop> Model for IoBuf<'a, O> {
+    ghost use Rattle.buffer_model.specs.Segment.{Segment};
+
+    ghost Value = { Segment O };
+
+    ghost use Rattle.iobuf_node.specs.Mine.{shown};
+
+    ghost view = { λ n. shown n.wrapped n.window };
+}
+
+impl<'a, O: Drop> IoBuf<'a, O> {
+    /// A node on bytes that stay where they are, all of them data. O(1), and no memory.
+    pub fn wrap(bytes: &'a [u8]) -> IoBuf<'a, O>
+        ensures { result ≡ whole_window bytes.now wrapped }
+    {
+        let len = bytes.len();
+        IoBuf {
+            wrapped: Some(bytes),
+            window: Mine {
+                hold: Managed::none(),
+                start: 0,
+                len,
+            },
+        }
+    }
+
+    // All bytes of the block.
+    pub(crate) fn block(&self) -> &[u8]
+        ensures { result.now ≡ block_of self.now }
+    {
+        match self.wrapped {
+            Some(bytes) => bytes,
+            None => self.window.hold.bytes(),
+        }
+    }
+
+    /// The data.
+    pub fn bytes(&self) -> &[u8]
+        ensures { result.now ≡ self.now.window }
+    {
+        let start = self.headroom();
+        let end = start + self.length();
+        &self.block()[start..end]
+    }
+
+    /// How many bytes of data there are.
+    pub fn length(&self) -> usize
+        ensures { result ≡ length self.now.window }
+    {
+        let rest = self.block().len() - self.headroom();
+        self.window.len.min(rest)
+    }
+
+    /// How many bytes lie before the data.
+    pub fn headroom(&self) -> usize
+        ensures value { result ≡ length self.now.before }
+        ensures fits { length self.now.before + (length self.now.window + length self.now.after) < 2 ^ 64 }
+    {
+        self.window.start.min(self.block().len())
+    }
+
+    /// How many bytes lie after the data.
+    pub fn tailroom(&self) -> usize
+        ensures { result ≡ length self.now.after }
+    {
+        self.block().len() - self.headroom() - self.length()
+    }
+
+    /// How many bytes the block has.
+    pub fn capacity(&self) -> usize
+        ensures { result ≡ length (block_of self.now) }
+    {
+        self.block().len()
+    }
+
+    /// The number of the storage. A wrapped node has none.
+    pub fn number(&self) -> Option<u64>
+        ensures number { result ≡ self.now.share.number }
+        ensures share { IsShare self.now.share }
+    {
+        match self.wrapped {
+            Some(_) => None,
+            None => self.window.hold.number(),
+        }
+    }
+
+    /// The node's own weight, of 2^62 in all, and 0 for a wrapped node.
+    pub fn weight(&self) -> u64
+        ensures weight { result ≡ self.now.share.weight }
+        ensures share { IsShare self.now.share }
+    {
+        match self.wrapped {
+            Some(_) => 0,
+            None => self.window.hold.weight(),
+        }
+    }
+
+    /// Whether the node has all weight of its storage. Takes no look at the count.
+    pub fn whole(&self) -> bool
+        ensures whole { IsTrue result ↔ IsWhole self.now.share }
+        ensures share { IsShare self.now.share }
+    {
+        self.wrapped.is_none() && self.window.hold.whole()
+    }
+
+    /// Leaves the first `n` bytes of the data to the room before it. O(1), and no memory.
+    pub fn trim_start(&mut self, n: usize)
+        requires { n ≤ length self.old.window }
+        ensures window { self.new ≡ trimmed_start n self.old }
+        ensures totals { KeepsTotals (held self.old.share ∷ []) (held self.new.share ∷ []) }
+    {
+        let start = self.headroom();
+        let len = self.length();
+        let _tail = self.tailroom();
+        self.window.start = start + n;
+        self.window.len = len - n;
+    }
+
+    /// Leaves the last `n` bytes of the data to the room after it. O(1), and no memory.
+    pub fn trim_end(&mut self, n: usize)
+        requires { n ≤ length self.old.window }
+        ensures window { self.new ≡ trimmed_end n self.old }
+        ensures totals { KeepsTotals (held self.old.share ∷ []) (held self.new.share ∷ []) }
+    {
+        let start = self.headroom();
+        let len = self.length();
+        self.window.start = start;
+        self.window.len = len - n;
+    }
+
+    /// Takes the next `n` bytes behind the data in. O(1), and no memory.
+    pub fn append(&mut self, n: usize)
+        requires { n ≤ length self.old.after }
+        ensures window { self.new ≡ appended n self.old }
+        ensures totals { KeepsTotals (held self.old.share ∷ []) (held self.new.share ∷ []) }
+    {
+        let start = self.headroom();
+        let len = self.length();
+        let _room = self.tailroom();
+        self.window.start = start;
+        self.window.len = len + n;
+    }
+
+    /// Takes the `n` bytes before the data in. O(1), and no memory.
+    pub fn prepend(&mut self, n: usize)
+        requires { n ≤ length self.old.before }
+        ensures window { self.new ≡ prepended n self.old }
+        ensures totals { KeepsTotals (held self.old.share ∷ []) (held self.new.share ∷ []) }
+    {
+        let start = self.headroom();
+        let len = self.length();
+        self.window.start = start - n;
+        self.window.len = len + n;
+    }
+}
+
+impl<'a, O: Drop> IoBuf<'a, O> {
+    ghost use Rattle.std.specs.Borrow.{sem};
+    ghost use Rattle.iobuf_node.specs.Mine.{seen};
+    ghost use Rattle.iobuf_node.specs.NodeLends.{lends_mine};
+
+    /// Lends the window for writing, where a look finds that nobody else holds the node's storage. No memory.
+    pub fn mine(&mut self) -> Result<&mut Mine<O>, Barred>
+        ensures* lends { sem 𝓛 (lends_mine O.row self.entry result) }
+        ensures value { IfOk result (λ m. seen m.now ≡ self.old) }
+        ensures totals { IfOk result (λ m. KeepsTotals (held self.old.share ∷ []) (held (seen m.now).share ∷ [])) }
+        ensures managed { IfOk result (λ m. IsManaged (seen m.now).share) }
+        ensures barred { IfErr result (Bars self.old.share.number self.old.share.weight) }
+        ensures whole { IsWhole self.old.share → IsOk result }
+    {
+        self.look()?;
+        Ok(&mut self.window)
+    }
+
+    // Looks whether the node may be written.
+    pub(crate) fn look(&mut self) -> Result<(), Barred>
+        ensures same { self.new ≡ self.old }
+        ensures managed { IsOk result → IsManaged self.old.share }
+        ensures barred { IfErr result (Bars self.old.share.number self.old.share.weight) }
+        ensures whole { IsWhole self.old.share → IsOk result }
+    {
+        if self.wrapped.is_some() {
+            return Err(Barred::Unmanaged);
+        }
+        self.window.hold.look()
+    }
+}
+
+impl<'a, O: Release> IoBuf<'a, O> {
+    /// Gives the node's storage back, as a hold does. No memory.
+    pub fn give_back(self) -> Back<O>
+        ensures back { GivesBack O.runs O.last (hold_of self.entry) result }
+        ensures nothing { (result ≡ Back.Nothing) ↔ (self.entry.share.number ≡ None) }
+        ensures totals { KeepsTotals (held self.entry.share ∷ []) (stakes_of result) }
+    {
+        let IoBuf { wrapped, window } = self;
+        let Mine { hold, .. } = window;
+        match wrapped {
+            Some(_) => Back::Nothing,
+            None => hold.give_back(),
+        }
+    }
+}

@@ -1,0 +1,135 @@
+//! Rooms, copies and clones of nodes.
+ghost use Rattle.std.specs.Prelude.{◌≡◌, ◌+◌, ◌≤◌, ◌<◌, ◌^◌, ◌↔◌, List, [], ◌∷◌, ◌++◌, None, Ok, IsOk, IsNone, IsSome, IfNone, IfSome, IfOk, IfErr, OnErr, OnOk, MatchResult, length, replicate};
+ghost use Rattle.buffer_model.specs.Share.{IsWhole, IsManaged, fresh, own};
+ghost use Rattle.buffer_model.specs.Segment.{between_rooms, cut, block_of, hold_of, shared_as};
+ghost use Rattle.buffer_model.specs.Stake.{held, KeepsTotals, KeepsTotalsBelow};
+ghost use Rattle.storage.specs.Back.{GivesBack, stakes_of};
+ghost use Rattle.iobuf_node.specs.Answered.{answered};
+
+use crate::make::{on, roomed};
+use crate::node::IoBuf;
+use share_count::Mint;
+use std::alloc::{AllocError, Global};
+use std::mem;
+use storage::{Back, Release};
+
+impl<'a, O: Release> IoBuf<'a, O> {
+    /// Makes both rooms at least this large. Where one isn't, the data is copied to a new storage with exactly these rooms, zero, and the old storage is given back. At most one allocation and one copy of the data.
+    pub fn reserve(
+        &mut self,
+        alloc: Global,
+        head: usize,
+        tail: usize,
+        mint: &mut Mint,
+    ) -> Result<Option<Back<O>>, AllocError>
+        ensures enough { IfOk result (λ b. IsNone b ↔ ((head ≤ length self.old.before) × (tail ≤ length self.old.after))) }
+        ensures stays { IfOk result (λ b. IfNone b ((self.new ≡ self.old) × (mint.new ≡ mint.old))) }
+        ensures window { IfOk result (λ b. IfSome b (λ _. self.new ≡ between_rooms head tail self.old.window (fresh mint.old own))) }
+        ensures back { IfOk result (λ b. IfSome b (GivesBack O.runs O.last (hold_of self.old))) }
+        ensures mint { IfOk result (λ b. IfSome b (λ _. mint.new ≡ mint.old + 1)) }
+        ensures refused { OnErr result ((self.new ≡ self.old) × (mint.old ≤ mint.new)) }
+        ensures totals { KeepsTotalsBelow mint.old (held self.old.share ∷ []) (held self.new.share ∷ answered result) }
+    {
+        let before = self.headroom();
+        let after = self.tailroom();
+        if head <= before && tail <= after {
+            return Ok(None);
+        }
+        match self.widen(alloc, head, tail, mint) {
+            Ok(back) => Ok(Some(back)),
+            Err(e) => Err(e),
+        }
+    }
+
+    // Copies the data to a new storage with these rooms.
+    fn widen(
+        &mut self,
+        alloc: Global,
+        head: usize,
+        tail: usize,
+        mint: &mut Mint,
+    ) -> Result<Back<O>, AllocError>
+        ensures window { OnOk result (self.new ≡ between_rooms head tail self.old.window (fresh mint.old own)) }
+        ensures back { IfOk result (GivesBack O.runs O.last (hold_of self.old)) }
+        ensures mint { OnOk result (mint.new ≡ mint.old + 1) }
+        ensures refused { OnErr result ((self.new ≡ self.old) × (mint.old ≤ mint.new)) }
+        ensures totals { IfOk result (λ back. KeepsTotals (held self.old.share ∷ []) (stakes_of back)) }
+    {
+        let len = self.length();
+        let Some(most) = head.checked_add(len) else {
+            return Err(AllocError);
+        };
+        if most.checked_add(tail).is_none() {
+            return Err(AllocError);
+        }
+        match roomed(alloc, self.bytes(), head, tail, mint) {
+            Ok(hold) => Ok(self.renew(on(hold, head, len))),
+            Err(e) => Err(e),
+        }
+    }
+
+    // Puts another node here, and gives this one back.
+    fn renew(&mut self, node: IoBuf<'static, O>) -> Back<O>
+        ensures window { self.new ≡ node.entry }
+        ensures back { GivesBack O.runs O.last (hold_of self.old) result }
+        ensures totals { KeepsTotals (held self.old.share ∷ []) (stakes_of result) }
+    {
+        mem::replace(self, node).give_back()
+    }
+
+    // Moves to a copy of the whole block.
+    fn move_out(&mut self, alloc: Global, mint: &mut Mint) -> Result<Option<Back<O>>, AllocError>
+        ensures some { IfOk result (λ b. IsSome b) }
+        ensures window { OnOk result (self.new ≡ shared_as (fresh mint.old own) self.old) }
+        ensures back { IfOk result (λ b. IfSome b (GivesBack O.runs O.last (hold_of self.old))) }
+        ensures mint { OnOk result (mint.new ≡ mint.old + 1) }
+        ensures refused { OnErr result ((self.new ≡ self.old) × (mint.old ≤ mint.new)) }
+        ensures totals { KeepsTotalsBelow mint.old (held self.old.share ∷ []) (held self.new.share ∷ answered result) }
+    {
+        match self.duplicate(alloc, mint) {
+            Ok(node) => Ok(Some(self.renew(node))),
+            Err(e) => Err(e),
+        }
+    }
+
+    /// Leaves a shared storage: where a look finds that others may hold it, or where it is wrapped, the whole block is copied to a new storage, rooms too, and the old one is given back.
+    pub fn unshare_one(
+        &mut self,
+        alloc: Global,
+        mint: &mut Mint,
+    ) -> Result<Option<Back<O>>, AllocError>
+        ensures stays { IfOk result (λ b. IfNone b (IsManaged self.old.share × (self.new ≡ self.old) × (mint.new ≡ mint.old))) }
+        ensures whole { IsWhole self.old.share → result ≡ Ok None }
+        ensures window { IfOk result (λ b. IfSome b (λ _. self.new ≡ shared_as (fresh mint.old own) self.old)) }
+        ensures back { IfOk result (λ b. IfSome b (GivesBack O.runs O.last (hold_of self.old))) }
+        ensures mint { IfOk result (λ b. IfSome b (λ _. mint.new ≡ mint.old + 1)) }
+        ensures refused { OnErr result ((self.new ≡ self.old) × (mint.old ≤ mint.new)) }
+        ensures totals { KeepsTotalsBelow mint.old (held self.old.share ∷ []) (held self.new.share ∷ answered result) }
+    {
+        match self.look() {
+            Ok(()) => Ok(None),
+            Err(_) => self.move_out(alloc, mint),
+        }
+    }
+
+    /// The same without a look: the block is copied exactly where the node isn't whole.
+    pub fn unshare_known(
+        &mut self,
+        alloc: Global,
+        mint: &mut Mint,
+    ) -> Result<Option<Back<O>>, AllocError>
+        ensures known { IfOk result (λ b. IsNone b ↔ IsWhole self.old.share) }
+        ensures whole { IsWhole self.old.share → result ≡ Ok None }
+        ensures stays { IfOk result (λ b. IfNone b ((self.new ≡ self.old) × (mint.new ≡ mint.old))) }
+        ensures window { IfOk result (λ b. IfSome b (λ _. self.new ≡ shared_as (fresh mint.old own) self.old)) }
+        ensures back { IfOk result (λ b. IfSome b (GivesBack O.runs O.last (hold_of self.old))) }
+        ensures mint { IfOk result (λ b. IfSome b (λ _. mint.new ≡ mint.old + 1)) }
+        ensures refused { OnErr result ((self.new ≡ self.old) × (mint.old ≤ mint.new)) }
+        ensures totals { KeepsTotalsBelow mint.old (held self.old.share ∷ []) (held self.new.share ∷ answered result) }
+    {
+        if self.whole() {
+            return Ok(None);
+        }
+        self.move_out(alloc, mint)
+    }
+}
