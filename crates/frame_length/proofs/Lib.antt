@@ -1,0 +1,4 @@
+mod Weights
+mod Looks
+mod Steps
+mod Chains

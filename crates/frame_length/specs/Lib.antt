@@ -1,0 +1,4 @@
+pub mod Units
+pub mod Decoding
+pub mod Scanning
+pub mod Laws

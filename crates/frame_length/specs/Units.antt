@@ -1,0 +1,27 @@
+-- The units that a decoder hands out, and those of the grammar.
+use Rattle.std.specs.Prelude.{◌≡◌, List, ◌++◌, map}
+use Rattle.iobuf_chain.specs.Segments.{bytes_of}
+use Rattle.frame_grammar.specs.Units.{FramingUnit, FrameAt, FaultAt}
+use Rattle.frame_length.specs.declared.unit.FrameUnit.{FrameUnit}
+use Rattle.frame_length.specs.declared.unit.FrameUnit.TheVariants.{Frame, Fault}
+
+-- the grammar's unit that a unit is
+abbrev pub unit_of : FrameUnit → FramingUnit
+unit_of (Frame at chain) = FrameAt at (bytes_of chain)
+unit_of (Fault at kind) = FaultAt at kind
+
+abbrev pub units_of : List FrameUnit → List FramingUnit
+units_of us = map unit_of us
+
+-- the units added to `old` are those that `all` has behind `some`
+pub record Grew (some all : List FramingUnit) (old new : List FrameUnit) : Type 0 where
+  pub added : List FrameUnit
+  pub units : all ≡ some ++ units_of added
+  pub haul : new ≡ old ++ added
+
+-- the units added to `old` are the first of those that `all` has behind `some`
+pub record GrewPartly (some all : List FramingUnit) (old new : List FrameUnit) : Type 0 where
+  pub added : List FrameUnit
+  pub missing : List FramingUnit
+  pub units : all ≡ (some ++ units_of added) ++ missing
+  pub haul : new ≡ old ++ added
