@@ -1,0 +1,11 @@
+pub mod Weights
+pub mod Held
+pub mod Homes
+pub mod HomeLends
+pub mod Cutting
+pub mod Answers
+pub mod Lending
+pub mod Histories
+pub mod Accounting
+pub mod Numbered
+pub mod Seats
