@@ -1,2 +1,4 @@
 pub mod Windows
 pub mod Totals
+pub mod Minted
+pub mod Clones

@@ -1,9 +1,36 @@
 -- Totals of storages.
-use Rattle.std.proofs.Common.{◌≡◌, ◌≢◌, ℕ, ◌+◌, ◌<◌, ◌==◌, Bool, true, false, cond, eqb, List, [], ◌∷◌, ◌++◌, Option, Some, None, sym, refl, ap, subst, ◌∙◌, arith, ◌⊎◌, inl, inr}
+use Rattle.std.proofs.Common.{◌≡◌, ℕ, ◌+◌, ◌<◌, ◌==◌, Bool, true, false, cond, List, [], ◌∷◌, ◌++◌, Option, Some, None, sym, refl, ap, subst, ◌∙◌, arith, inl, inr}
 use Rattle.std.proofs.lemmas.Bool.Decides.{eqb_tells}
 use Rattle.std.proofs.lemmas.Option.{none-some}
-use Rattle.buffer_model.specs.Share.{Share, Way, Kind, Tally, fresh, full}
-use Rattle.buffer_model.specs.Stake.{Stake, held, counted, kept, ended, weight_at, weight_in, total, Agrees, IsOneWay, Keeps, KeepsTotals, KeepsTotalsBelow}
+use Rattle.std.proofs.Common.{◌≤◌, ◌-◌, length}
+use Rattle.share_count.specs.Weights.{part}
+use Rattle.share_count.specs.Held.{Tally}
+use Rattle.buffer_model.specs.Share.{Share, Way, Kind, IsOfStorage, rest_of, part_of, absorbed_in}
+use Rattle.buffer_model.specs.Stake.{Stake, held, counted, received, weight_at, weight_in, total, Agrees, IsOneWay, Keeps, KeepsTotals, KeepsTotalsBelow}
+use Rattle.buffer_model.specs.Minted.{Numbers, IsBetween, IsNew}
+
+-- a hold on a storage that is new has nothing of an older one
+between_weight : (n w : ℕ) (a b : Numbers) (o : Option ℕ) → IsBetween a b o → n < length a → weight_at n o w ≡ 0
+between_weight n w a b None is h = refl
+between_weight n w a b (Some m) is h =
+    elim (eqb_tells m n) [
+      | inl same ↦ absurd (let e = same.1 in let low = is.0 in omega (arith, low, e))
+      | inr not ↦ ap (λ (b : Bool). cond b w 0) not.0
+    ]
+
+between_apart : (n : ℕ) (a b : Numbers) (o : Option ℕ) → IsBetween a b o → n < length a → o ≡ Some n → ⊥
+between_apart n a b None is h e = is
+between_apart n a b (Some m) is h e = let same : m ≡ n = cc e in let low = is.0 in omega (arith, low, same)
+
+-- what is shared stays in sum
+weight_at-add : (n x y : ℕ) (o : Option ℕ) → weight_at n o (x + y) ≡ weight_at n o x + weight_at n o y
+weight_at-add n x y None = refl
+weight_at-add n x y (Some m) = let P : Bool → Type 0 = λ b. cond b (x + y) 0 ≡ cond b x 0 + cond b y 0 in
+    elim (m == n) as P [ true ↦ refl | false ↦ refl ]
+
+-- a receipt that is absorbed stays in sum
+received_as : (n : ℕ) (o : Option ℕ) (r : Tally) → o ≡ Some r.number → weight_at n o r.weight ≡ received n r
+received_as n o r is = ap (λ x. weight_at n x r.weight) is
 
 module _ {O : Type 0} where
   -- what stays keeps totals
@@ -42,29 +69,27 @@ module _ {O : Type 0} where
     way = λ kind is. one_way-append n kind us vs (p.way kind (one_way-front n kind xs ys is)) (q.way kind (one_way-back n kind xs ys is));
   }
 
-  -- the one hold on a storage that is new has nothing of an older one
-  fresh_weight : (n m : ℕ) (way : Way O) → n < m → weight_in n (held (fresh m way)) ≡ 0
-  fresh_weight n m way h =
-      elim (eqb_tells m n) [
-        | inl is ↦ absurd (let same = is.1 in omega arith)
-        | inr not ↦ ap (λ (b : Bool). cond b (full + 0) 0) not.0
-      ]
-
-  fresh_agrees : (n m : ℕ) (way : Way O) (kind : Kind) → n < m → Agrees n kind (held (fresh m way))
-  fresh_agrees n m way kind h is = absurd (let same : m ≡ n = cc is in omega arith)
+  -- keeping totals below a count, once more where the count has grown
+  pub keeps_below_then : (m n : ℕ) (xs ys zs : List (Stake O)) → m ≤ n → KeepsTotalsBelow m xs ys → KeepsTotalsBelow n ys zs → KeepsTotalsBelow m xs zs
+  keeps_below_then m n xs ys zs le p q k h = let h' : k < n = omega arith in
+      record { total = (q k h').total ∙ (p k h).total; way = λ kind is. (q k h').way kind ((p k h).way kind is) }
 
   -- so it may stand beside what keeps totals
-  pub keeps_beside : (m : ℕ) (way : Way O) (share : Share O) (xs ys : List (Stake O)) → share ≡ fresh m way → KeepsTotals xs ys → KeepsTotalsBelow m xs (held share ∷ ys)
-  keeps_beside m way share xs ys is keeps n h =
-      let P : Share O → Type 0 = λ s. Keeps xs (held s ∷ ys) n in
-      subst P (sym is) record {
-        total = ap (λ (x : ℕ). x + total n ys) (fresh_weight n m way h) ∙ (let k = (keeps n).total in omega arith);
-        way = λ kind one. (fresh_agrees n m way kind h, (keeps n).way kind one);
-      }
+  pub keeps_beside : (a b : Numbers) (way : Way O) (share : Share O) (xs ys : List (Stake O)) → IsNew a b way share → KeepsTotals xs ys → KeepsTotalsBelow (length a) xs (held share ∷ ys)
+  keeps_beside a b way share xs ys new keeps n h = record {
+    total = ap (λ (x : ℕ). x + total n ys) (between_weight n (share.weight + share.absorbed) a b share.number new.number h) ∙ (let k = (keeps n).total in omega (arith, k));
+    way = λ kind one. ((λ is. absurd (between_apart n a b share.number new.number h is)), (keeps n).way kind one);
+  }
+
+  pub keeps_beside_last : (a b : Numbers) (way : Way O) (s share : Share O) → IsNew a b way share → KeepsTotalsBelow (length a) (held s ∷ []) (held s ∷ held share ∷ [])
+  keeps_beside_last a b way s share new n h = record {
+    total = let none = between_weight n (share.weight + share.absorbed) a b share.number new.number h in omega (arith, none);
+    way = λ kind one. (one.0, (λ is. absurd (between_apart n a b share.number new.number h is), tt));
+  }
 
   -- and alone, where there was nothing
-  pub keeps_made : (m : ℕ) (way : Way O) (share : Share O) → share ≡ fresh m way → KeepsTotalsBelow m [] (held share ∷ [])
-  keeps_made m way share is = keeps_beside m way share [] [] is (keeps_same [])
+  pub keeps_made : (a b : Numbers) (way : Way O) (share : Share O) → IsNew a b way share → KeepsTotalsBelow (length a) [] (held share ∷ [])
+  keeps_made a b way share new = keeps_beside a b way share [] [] new (keeps_same [])
 
   -- a hold on wrapped bytes has nothing of any storage
   none_agrees : (n : ℕ) (kind : Kind) (s : Share O) → s.number ≡ None → Agrees n kind (held s)
@@ -83,4 +108,26 @@ module _ {O : Type 0} where
   keeps_wrapped_out s none n = record {
     total = sym (let none' = none_weight n s none in omega arith);
     way = λ kind is. tt;
+  }
+
+  pub share_keeps : (s : Share O) → 2 ≤ s.weight → KeepsTotals (held s ∷ []) (held (rest_of s) ∷ held (part_of s) ∷ [])
+  share_keeps s two n = record {
+    total =
+        let rest = s.weight - part s.weight in let more = part s.weight in
+        let all : (rest + s.absorbed) + (more + 0) ≡ s.weight + s.absorbed = omega arith in
+        let sum = weight_at-add n (rest + s.absorbed) (more + 0) s.number in
+        let same = ap (λ (w : ℕ). weight_at n s.number w) all in
+        omega (arith, sum, same);
+    way = λ kind is. (is.0, (is.0, tt));
+  }
+
+  pub absorb_keeps : (s : Share O) (r : Tally) → IsOfStorage s r → KeepsTotals (held s ∷ counted r ∷ []) (held (absorbed_in r.weight s) ∷ [])
+  absorb_keeps s r is n = record {
+    total =
+        let all : (s.weight + s.absorbed) + r.weight ≡ s.weight + (s.absorbed + r.weight) = omega arith in
+        let sum = weight_at-add n (s.weight + s.absorbed) r.weight s.number in
+        let same = ap (λ (w : ℕ). weight_at n s.number w) all in
+        let there = received_as n s.number r is.0 in
+        omega (arith, sum, same, there);
+    way = λ kind one. (one.0, tt);
   }

@@ -1,12 +1,13 @@
 -- Windows on blocks: where they are cut, and what the three lists then are.
-use Rattle.std.proofs.Common.{◌≡◌, ℕ, ◌+◌, ◌-◌, ◌≤◌, List, [], ◌∷◌, ◌++◌, take, drop, length, replicate, sym, refl, ap, subst, ◌∙◌, append_assoc, arith, length-append}
+use Rattle.std.proofs.Common.{◌≡◌, ℕ, ◌+◌, ◌-◌, ◌≤◌, List, [], ◌∷◌, ◌++◌, take, drop, length, replicate, sym, refl, ap, ◌∙◌, append_assoc, arith, length-append}
 use Rattle.std.proofs.Math.Seq.{take-append_seam, drop-append_seam, take-length, take-add}
 use Rattle.std.proofs.lemmas.List.{drop-drop, length-take, length-take-le, length-drop, take-append-drop}
 use Rattle.buffer_model.specs.Share.{Share}
-use Rattle.std.specs.List.{copy_within, refill, length_refill}
+use Rattle.std.specs.List.{copy_within, length_refill}
 use Rattle.std.proofs.lemmas.List.{append-nil, drop_all, take-replicate, drop-replicate, length-replicate}
 use Rattle.buffer_model.specs.Share.{Held}
-use Rattle.buffer_model.specs.Segment.{Segment, cut, block_of, bytes_of, trimmed_start, trimmed_end, appended, prepended, overwritten, moved_to, rewritten, with_span, between_rooms, hold_of, shared_as}
+use Rattle.raw_block.specs.Spans.{with_span}
+use Rattle.buffer_model.specs.Segment.{Segment, cut, block_of, bytes_of, trimmed_start, trimmed_end, appended, prepended, overwritten, moved_to, rewritten, between_rooms, hold_of, shared_as}
 
 -- bytes written into a block from p on, where they fit
 pub with_span-fits : (b : List ℕ) (p : ℕ) (w : List ℕ) → p + length w ≤ length b → with_span b p w ≡ take p b ++ (w ++ drop (p + length w) b)
@@ -53,27 +54,62 @@ module _ {O : Type 0} where
   pub trims_twice : (s : Segment O) (m n : ℕ) → trimmed_start n (trimmed_start m s) ≡ trimmed_start (m + n) s
   trims_twice s m n = rw (append_assoc s.before (take m s.window) (take n (drop m s.window)), ← take-add m n s.window, drop-drop n m s.window) refl
 
+  -- calls that only move the window keep the block
+  pub trimmed_start-block : (m : ℕ) (v : Segment O) → block_of (trimmed_start m v) ≡ block_of v
+  trimmed_start-block m v =
+      append_assoc v.before (take m v.window) (drop m v.window ++ v.after) ∙ ap (λ x. v.before ++ x) (sym (append_assoc (take m v.window) (drop m v.window) v.after) ∙ ap (λ x. x ++ v.after) (take-append-drop m v.window))
+
+  pub trimmed_end-block : (m : ℕ) (v : Segment O) → block_of (trimmed_end m v) ≡ block_of v
+  trimmed_end-block m v =
+      let left = length v.window - m in
+      ap (λ x. v.before ++ x) (sym (append_assoc (take left v.window) (drop left v.window) v.after) ∙ ap (λ x. x ++ v.after) (take-append-drop left v.window))
+
+  pub appended-block : (m : ℕ) (v : Segment O) → block_of (appended m v) ≡ block_of v
+  appended-block m v =
+      ap (λ x. v.before ++ x) (append_assoc v.window (take m v.after) (drop m v.after) ∙ ap (λ x. v.window ++ x) (take-append-drop m v.after))
+
+  pub prepended-block : (m : ℕ) (v : Segment O) → block_of (prepended m v) ≡ block_of v
+  prepended-block m v =
+      let left = length v.before - m in
+      ap (λ x. take left v.before ++ x) (append_assoc (drop left v.before) v.window v.after) ∙ sym (append_assoc (take left v.before) (drop left v.before) (v.window ++ v.after)) ∙ ap (λ x. x ++ (v.window ++ v.after)) (take-append-drop left v.before)
+
+  -- what the end lost comes back from the room after it
+  pub append_undoes_trim : (m : ℕ) (v : Segment O) → m ≤ length v.window → appended m (trimmed_end m v) ≡ v
+  append_undoes_trim m v h =
+      let left = length v.window - m in
+      let lost = drop left v.window in
+      let size : m ≡ length lost = omega (arith, length-drop left v.window) in
+      let back : take m (lost ++ v.after) ≡ lost = ap (λ (n : ℕ). take n (lost ++ v.after)) size ∙ take-append_seam lost v.after in
+      let rest : drop m (lost ++ v.after) ≡ v.after = ap (λ (n : ℕ). drop n (lost ++ v.after)) size ∙ drop-append_seam lost v.after in
+      let window : take left v.window ++ take m (lost ++ v.after) ≡ v.window = ap (λ x. take left v.window ++ x) back ∙ take-append-drop left v.window in
+      λ i. record { before = v.before; window = window i; after = rest i; share = v.share }
+
+  -- what the front lost comes back from the room before it
+  pub prepend_undoes_trim : (m : ℕ) (v : Segment O) → m ≤ length v.window → prepended m (trimmed_start m v) ≡ v
+  prepend_undoes_trim m v h =
+      let lost = take m v.window in
+      let all = v.before ++ lost in
+      let left : length all - m ≡ length v.before = omega (arith, length-append v.before lost, length-take-le m v.window h) in
+      let rest : take (length all - m) all ≡ v.before = ap (λ (n : ℕ). take n all) left ∙ take-append_seam v.before lost in
+      let back : drop (length all - m) all ≡ lost = ap (λ (n : ℕ). drop n all) left ∙ drop-append_seam v.before lost in
+      let window : drop (length all - m) all ++ drop m v.window ≡ v.window = ap (λ x. x ++ drop m v.window) back ∙ take-append-drop m v.window in
+      λ i. record { before = rest i; window = window i; after = v.after; share = v.share }
+
   -- the block of what was cut
   pub block_of-cut : (b : List ℕ) (s n : ℕ) (k : Share O) → block_of (cut b s n k) ≡ b
   block_of-cut b s n k =
       ap (λ x. take s b ++ (take n (drop s b) ++ x)) (sym (drop-drop n s b)) ∙ ap (λ x. take s b ++ x) (take-append-drop n (drop s b)) ∙ take-append-drop s b
 
   -- bytes between rooms, cut where they lie
-  pub cut-rooms : (head tail : ℕ) (w : List ℕ) (h : Held O) (k : Share O) (len : ℕ) → h ≡ record { bytes = replicate head 0 ++ (w ++ replicate tail 0); share = k } → len ≡ length w → cut h.bytes head len h.share ≡ between_rooms head tail w k
-  cut-rooms head tail w h k len is same =
-      ap (λ (x : Held O). cut x.bytes head len x.share) is
-      ∙ recut (replicate head 0 ++ (w ++ replicate tail 0)) head len (between_rooms head tail w k) refl (length-replicate {A = ℕ} head 0) (sym same)
-
-  -- a new storage that was filled so has the bytes between rooms
-  pub filled_rooms : (head tail : ℕ) (w : List ℕ) (h r : Held O) (k : Share O) → h ≡ record { bytes = replicate ((head + length w) + tail) 0; share = k } → r ≡ record { bytes = with_span h.bytes head w; share = h.share } → r ≡ record { bytes = replicate head 0 ++ (w ++ replicate tail 0); share = k }
-  filled_rooms head tail w h r k from is =
-      let f : List ℕ → Share O → Held O = λ b s. record { bytes = b; share = s } in
-      is ∙ ap (λ (x : Held O). f (with_span x.bytes head w) x.share) from ∙ ap (λ b. f b k) (in_zeros head tail w)
+  pub cut-rooms : (head tail : ℕ) (w : List ℕ) (h : Held O) (len : ℕ) → h.bytes ≡ replicate head 0 ++ (w ++ replicate tail 0) → len ≡ length w → cut h.bytes head len h.share ≡ between_rooms head tail w h.share
+  cut-rooms head tail w h len is same =
+      ap (λ x. cut x head len h.share) is
+      ∙ recut (replicate head 0 ++ (w ++ replicate tail 0)) head len (between_rooms head tail w h.share) refl (length-replicate {A = ℕ} head 0) (sym same)
 
   -- the same window on a copy of the block
-  pub copied : (v : Segment O) (start len : ℕ) (h : Held O) (b : List ℕ) (k : Share O) → start ≡ length v.before → len ≡ length v.window → b ≡ block_of v → h ≡ record { bytes = b; share = k } → cut h.bytes start len h.share ≡ shared_as k v
-  copied v start len h b k at width block is =
-      ap (λ (x : Held O). cut x.bytes start len x.share) is ∙ ap (λ x. cut x start len k) block ∙ recut (block_of v) start len (shared_as k v) refl (sym at) (sym width)
+  pub copied : (v : Segment O) (start len : ℕ) (h : Held O) (b : List ℕ) → start ≡ length v.before → len ≡ length v.window → b ≡ block_of v → h.bytes ≡ b → cut h.bytes start len h.share ≡ shared_as h.share v
+  copied v start len h b at width block is =
+      ap (λ x. cut x start len h.share) (is ∙ block) ∙ recut (block_of v) start len (shared_as h.share v) refl (sym at) (sym width)
 
   module _ (b : List ℕ) (s n : ℕ) (k : Share O) (v : Segment O) (is : cut b s n k ≡ v) where
     pub block_is : block_of v ≡ b
@@ -90,29 +126,21 @@ module _ {O : Type 0} where
     module _ (m start len : ℕ) where
       pub trims_start : m ≤ length v.window → start ≡ length v.before + m → len ≡ length v.window - m → cut b start len k ≡ trimmed_start m v
       trims_start h at rest =
-          let lists : (v.before ++ take m v.window) ++ (drop m v.window ++ v.after) ≡ v.before ++ (v.window ++ v.after) =
-          append_assoc v.before (take m v.window) (drop m v.window ++ v.after) ∙ ap (λ x. v.before ++ x) (sym (append_assoc (take m v.window) (drop m v.window) v.after) ∙ ap (λ x. x ++ v.after) (take-append-drop m v.window)) in
-          is_recut start len (trimmed_start m v) lists refl (omega (arith, length-append v.before (take m v.window), length-take-le m v.window h)) (omega (arith, length-drop m v.window))
+          is_recut start len (trimmed_start m v) (trimmed_start-block m v) refl (omega (arith, length-append v.before (take m v.window), length-take-le m v.window h)) (omega (arith, length-drop m v.window))
 
       pub trims_end : m ≤ length v.window → start ≡ length v.before → len ≡ length v.window - m → cut b start len k ≡ trimmed_end m v
       trims_end h at rest =
           let left = length v.window - m in
-          let lists : v.before ++ (take left v.window ++ (drop left v.window ++ v.after)) ≡ v.before ++ (v.window ++ v.after) =
-          ap (λ x. v.before ++ x) (sym (append_assoc (take left v.window) (drop left v.window) v.after) ∙ ap (λ x. x ++ v.after) (take-append-drop left v.window)) in
-          is_recut start len (trimmed_end m v) lists refl (sym at) (omega (arith, length-take left v.window))
+          is_recut start len (trimmed_end m v) (trimmed_end-block m v) refl (sym at) (omega (arith, length-take left v.window))
 
       pub appends : m ≤ length v.after → start ≡ length v.before → len ≡ length v.window + m → cut b start len k ≡ appended m v
       appends h at rest =
-          let lists : v.before ++ ((v.window ++ take m v.after) ++ drop m v.after) ≡ v.before ++ (v.window ++ v.after) =
-          ap (λ x. v.before ++ x) (append_assoc v.window (take m v.after) (drop m v.after) ∙ ap (λ x. v.window ++ x) (take-append-drop m v.after)) in
-          is_recut start len (appended m v) lists refl (sym at) (omega (arith, length-append v.window (take m v.after), length-take-le m v.after h))
+          is_recut start len (appended m v) (appended-block m v) refl (sym at) (omega (arith, length-append v.window (take m v.after), length-take-le m v.after h))
 
       pub prepends : m ≤ length v.before → start ≡ length v.before - m → len ≡ length v.window + m → cut b start len k ≡ prepended m v
       prepends h at rest =
           let left = length v.before - m in
-          let lists : take left v.before ++ ((drop left v.before ++ v.window) ++ v.after) ≡ v.before ++ (v.window ++ v.after) =
-          ap (λ x. take left v.before ++ x) (append_assoc (drop left v.before) v.window v.after) ∙ sym (append_assoc (take left v.before) (drop left v.before) (v.window ++ v.after)) ∙ ap (λ x. x ++ (v.window ++ v.after)) (take-append-drop left v.before) in
-          is_recut start len (prepended m v) lists refl (omega (arith, length-take left v.before)) (omega (arith, length-append (drop left v.before) v.window, length-drop left v.before))
+          is_recut start len (prepended m v) (prepended-block m v) refl (omega (arith, length-take left v.before)) (omega (arith, length-append (drop left v.before) v.window, length-drop left v.before))
 
     -- a hold that shows this window is known by it
     pub held_is : (h : Held O) → h.bytes ≡ b → h.share ≡ k → h ≡ hold_of v

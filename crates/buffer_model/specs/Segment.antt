@@ -1,6 +1,5 @@
 -- Windows on blocks, and the calls that move them.
 use Rattle.std.specs.Prelude.{ℕ, ◌+◌, ◌-◌, List, [], ◌∷◌, ◌++◌, length, take, drop, replicate}
-use Rattle.std.specs.List.{refill}
 use Rattle.buffer_model.specs.Share.{Share, Held}
 
 -- a window on a block: the bytes before it, in it and after it, and what it has of the storage
@@ -14,10 +13,6 @@ pub record Segment (O : Type 0) : Type 0 where
 abbrev pub overwritten : List ℕ → ℕ → List ℕ → List ℕ
 overwritten block p bytes = take p block ++ (bytes ++ drop (p + length bytes) block)
 
--- a block whose bytes from p on, as many as are given, are these. Its length stays
-abbrev pub with_span : List ℕ → ℕ → List ℕ → List ℕ
-with_span block p bytes = refill (length block) block (take p block ++ (bytes ++ drop (length bytes) (drop p block)))
-
 module _ {O : Type 0} where
   -- all bytes of the block
   abbrev pub block_of : Segment O → List ℕ
@@ -30,7 +25,12 @@ module _ {O : Type 0} where
 
   -- a block cut into the bytes before a place, n bytes from there on, and the rest. What would lie past its end is left out
   abbrev pub cut : List ℕ → ℕ → ℕ → Share O → Segment O
-  cut block start n share = record { before = take start block; window = take n (drop start block); after = drop (start + n) block; share = share }
+  cut block start n share = record {
+    before = take start block;
+    window = take n (drop start block);
+    after = drop (start + n) block;
+    share = share;
+  }
 
   -- the hold that the window is of
   abbrev pub hold_of : Segment O → Held O
@@ -42,7 +42,12 @@ module _ {O : Type 0} where
 
   -- bytes between two rooms of zero bytes
   abbrev pub between_rooms : ℕ → ℕ → List ℕ → Share O → Segment O
-  between_rooms head tail bytes share = record { before = replicate head 0; window = bytes; after = replicate tail 0; share = share }
+  between_rooms head tail bytes share = record {
+    before = replicate head 0;
+    window = bytes;
+    after = replicate tail 0;
+    share = share;
+  }
 
   -- the window loses its first n bytes to what is before it
   abbrev pub trimmed_start : ℕ → Segment O → Segment O
@@ -50,7 +55,8 @@ module _ {O : Type 0} where
 
   -- the window loses its last n bytes to what is after it
   abbrev pub trimmed_end : ℕ → Segment O → Segment O
-  trimmed_end n s = let k = length s.window - n in record s { window = take k s.window; after = drop k s.window ++ s.after }
+  trimmed_end n s =
+      let k = length s.window - n in record s { window = take k s.window; after = drop k s.window ++ s.after }
 
   -- the window gains the next n bytes
   abbrev pub appended : ℕ → Segment O → Segment O
@@ -58,7 +64,8 @@ module _ {O : Type 0} where
 
   -- the window gains the n bytes before it
   abbrev pub prepended : ℕ → Segment O → Segment O
-  prepended n s = let k = length s.before - n in record s { before = take k s.before; window = drop k s.before ++ s.window }
+  prepended n s =
+      let k = length s.before - n in record s { before = take k s.before; window = drop k s.before ++ s.window }
 
   -- the window's bytes are written over those from p on, and the window lies there
   abbrev pub moved_to : ℕ → Segment O → Segment O

@@ -1,6 +1,7 @@
 -- What a call has of each storage, at its entry and at its exit.
 use Rattle.std.specs.Prelude.{◌≡◌, ℕ, ◌+◌, ◌<◌, ◌==◌, if◌then◌else◌, List, [], ◌∷◌, Option, Some, None}
-use Rattle.buffer_model.specs.Share.{Share, Way, Kind, kind_of, Tally}
+use Rattle.buffer_model.specs.Share.{Share, Way, Kind, ownerless}
+use Rattle.share_count.specs.Held.{Tally}
 
 -- one thing that has a part of a storage's weight: a hold; a receipt by itself; what was handed back while others hold the storage; or what was handed back at the last, with how the storage was released
 pub data Stake (O : Type 0) : Type 0 where
@@ -31,7 +32,7 @@ module _ {O : Type 0} where
 
   abbrev pub IsOfKind : Kind → Option (Way O) → Type 0
   IsOfKind kind None = ⊥
-  IsOfKind kind (Some way) = kind_of way ≡ kind
+  IsOfKind kind (Some way) = ownerless way ≡ kind
 
   -- if it is of storage n: the storage is released in this way, lasts is 0 where others hold it, and 1 at the last
   abbrev pub Agrees : ℕ → Kind → Stake O → Type 0

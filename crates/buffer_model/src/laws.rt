@@ -1,5 +1,7 @@
 //! Laws of the definitions: each is the contract of a function that does nothing.
-ghost use Rattle.buffer_model.specs.Laws.{CutKeepsBlock, TrimsCompose, JoinsBytes, TotalsAdd, KeepsAfterKeeps, KeepsBesideKeeps};
+ghost use Rattle.buffer_model.specs.Laws.{CutKeepsBlock, TrimsCompose, TrimsKeepBlock, RoomsKeepBlock, AppendUndoesTrim, PrependUndoesTrim, JoinsBytes, TotalsAdd};
+ghost use Rattle.buffer_model.specs.Laws.{KeepsAfterKeeps, KeepsBesideKeeps, KeepsAsCountGrows, ShareKeepsTotals, AbsorbKeepsTotals, CloneKeepsTotals};
+ghost use Rattle.buffer_model.specs.Laws.{OneMintOneStorage, AddsCompose, NewStaysNew, NewAfterwardsIsNew};
 
 /// Wherever a block is cut, the three lists join to it.
 pub fn cut_keeps_block<O: Drop>()
@@ -9,6 +11,26 @@ pub fn cut_keeps_block<O: Drop>()
 /// Two trims at the front are one.
 pub fn trims_compose<O: Drop>()
     ensures { TrimsCompose O }
+{}
+
+/// A trim at either end keeps all bytes of the block.
+pub fn trims_keep_block<O: Drop>()
+    ensures { TrimsKeepBlock O }
+{}
+
+/// Taking room in at either end keeps all bytes of the block.
+pub fn rooms_keep_block<O: Drop>()
+    ensures { RoomsKeepBlock O }
+{}
+
+/// Taking `n` bytes behind the window in undoes a trim of `n` at its end.
+pub fn append_undoes_trim<O: Drop>()
+    ensures { AppendUndoesTrim O }
+{}
+
+/// Taking `n` bytes before the window in undoes a trim of `n` at its front.
+pub fn prepend_undoes_trim<O: Drop>()
+    ensures { PrependUndoesTrim O }
 {}
 
 /// The bytes of two lists of windows that are joined are the bytes of each.
@@ -29,4 +51,44 @@ pub fn keeps_after_keeps<O: Drop>()
 /// Two calls that keep totals, each on its own part, keep them together.
 pub fn keeps_beside_keeps<O: Drop>()
     ensures { KeepsBesideKeeps O }
+{}
+
+/// A call that keeps totals of the storages that were numbered before it, after one that does, keeps those of the first call's, also where the mint has numbered more in between.
+pub fn keeps_as_count_grows<O: Drop>()
+    ensures { KeepsAsCountGrows O }
+{}
+
+/// A share that is given away stays in sum with what is left.
+pub fn share_keeps_totals<O: Drop>()
+    ensures { ShareKeepsTotals O }
+{}
+
+/// A receipt that a hold of its storage absorbs stays in sum.
+pub fn absorb_keeps_totals<O: Drop>()
+    ensures { AbsorbKeepsTotals O }
+{}
+
+/// A clone keeps totals.
+pub fn clone_keeps_totals<O: Drop>()
+    ensures { CloneKeepsTotals O }
+{}
+
+/// Equal numbers of one mint are one storage: what absorbing a receipt asks for.
+pub fn one_mint_one_storage<O: Drop>()
+    ensures { OneMintOneStorage O }
+{}
+
+/// What two calls number, one after the other, adds up.
+pub fn adds_compose()
+    ensures { AddsCompose }
+{}
+
+/// A hold on a storage that a call made is one that a longer call made, which goes on.
+pub fn new_stays_new<O: Drop>()
+    ensures { NewStaysNew O }
+{}
+
+/// The same for a longer call, which began before.
+pub fn new_afterwards_is_new<O: Drop>()
+    ensures { NewAfterwardsIsNew O }
 {}

@@ -1,9 +1,14 @@
 -- What a call that may give a storage back answers.
-use Rattle.std.specs.Prelude.{List, [], ◌∷◌, Option, Result, Ok, Err}
-use Rattle.buffer_model.specs.Stake.{Stake, held}
+use Rattle.std.specs.Prelude.{List, [], ◌∷◌, length, Option, Result, Ok, Err}
+use Rattle.buffer_model.specs.Minted.{Numbers}
+use Rattle.buffer_model.specs.Stake.{Stake, held, KeepsTotalsBelow}
 use Rattle.buffer_model.specs.Segment.{Segment}
 use Rattle.storage.specs.Back.{stakes_if}
 use Rattle.storage.specs.declared.back.Back.{Back}
+
+-- a call that had this node, and has these things afterwards, keeps the totals of the storages that were numbered before it
+abbrev pub KeepsFor : {O : Type 0} → Numbers → Segment O → List (Stake O) → Type 0
+KeepsFor old before exit = KeepsTotalsBelow (length old) (held before.share ∷ []) exit
 
 -- what a call has of storages by its answer
 abbrev pub answered : {O E : Type 0} → Result (Option (Back O)) E → List (Stake O)
@@ -14,3 +19,8 @@ answered (Err e) = []
 abbrev pub cloned : {O E : Type 0} → Result (Segment O) E → List (Stake O)
 cloned (Ok node) = held node.share ∷ []
 cloned (Err e) = []
+
+-- the same of a node that comes back in either case
+abbrev pub either_way : {O : Type 0} → Result (Segment O) (Segment O) → List (Stake O)
+either_way (Ok node) = held node.share ∷ []
+either_way (Err node) = held node.share ∷ []

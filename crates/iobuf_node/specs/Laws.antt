@@ -6,4 +6,6 @@ use Rattle.iobuf_node.specs.Mine.{seen, with_window}
 
 -- what a loan of the data leaves is the window with the bytes that were written
 abbrev pub WritesWindow : Type 0 → Type 0
-WritesWindow O = (m : Mine O) (bytes : List ℕ) → length bytes ≡ length (seen m).window → seen (with_window m bytes) ≡ rewritten bytes (seen m)
+WritesWindow O =
+    (m : Mine O) (bytes : List ℕ) → length bytes ≡ length (seen m).window
+    → seen (with_window m bytes) ≡ rewritten bytes (seen m)

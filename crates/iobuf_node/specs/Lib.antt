@@ -3,3 +3,4 @@ pub mod Laws
 pub mod Mine
 pub mod MineLends
 pub mod NodeLends
+pub mod Roomed

@@ -1,14 +1,28 @@
 -- What a node ends as, once its window was lent.
-use Rattle.std.specs.Prelude.{[], Result}
+use Rattle.std.specs.Prelude.{[], Result, Ok, Err}
 use Rattle.std.specs.Borrow.{Fml, RattleType, MutBor, LendsIfOk}
 use mir.Syntax.{named}
-use Rattle.buffer_model.specs.Segment.{Segment}
+use Rattle.buffer_model.specs.Share.{Share, looked}
+use Rattle.buffer_model.specs.Segment.{Segment, shared_as}
+use Rattle.storage.specs.declared.hold.Barred.{Barred}
+use Rattle.storage.specs.declared.hold.Barred.TheVariants.{SharedNow, Unmanaged}
 use Rattle.iobuf_node.specs.Mine.{seen}
 use Rattle.iobuf_node.specs.declared.mine.Mine.{Mine}
 use Rattle.iobuf_node.specs.contracts.mine.Mine.{the_row as mine_row}
 use Rattle.iobuf_node.specs.contracts.node.IoBuf.{the_row}
 
+module _ {O : Type 0} where
+  -- a share after a refused claim: the look that found others is counted and noted
+  abbrev pub refused_by : Barred → Share O → Share O
+  refused_by Unmanaged s = s
+  refused_by (SharedNow found) s = looked found s
+
+  -- a node after a claim that lent nothing
+  abbrev pub unlent : {X : Type 0} → Result X Barred → Segment O → Segment O
+  unlent (Ok lent) n = n
+  unlent (Err reason) n = shared_as (refused_by reason n.share) n
+
 module _ (O : RattleType) (n : MutBor (Segment O.Denot)) where
-  -- a node ends as its window was left, and as it was where the window wasn't lent
-  abbrev pub lends_mine : {E : Type 0} → Result (MutBor (Mine O.Denot)) E → Fml
-  lends_mine r = LendsIfOk (the_row (record { mir = named 1; lft = [] }) O) (mine_row O) n r seen n.now
+  -- a node ends as its window was left; where the window wasn't lent, its look alone is noted
+  abbrev pub lends_mine : Result (MutBor (Mine O.Denot)) Barred → Fml
+  lends_mine r = LendsIfOk (the_row (record { mir = named 1; lft = [] }) O) (mine_row O) n r seen (unlent r n.now)

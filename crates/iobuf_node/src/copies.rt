@@ -1,32 +1,41 @@
 //! Copies and clones of nodes.
-ghost use Rattle.std.specs.Prelude.{◌≡◌, ◌+◌, ◌≤◌, List, [], ◌∷◌, None, Ok, IfOk, IfErr, OnErr, OnOk, MatchOption, MatchResult};
-ghost use Rattle.buffer_model.specs.Share.{IsManaged, fresh, own};
-ghost use Rattle.buffer_model.specs.Segment.{shared_as};
-ghost use Rattle.buffer_model.specs.Stake.{held, KeepsTotalsBelow};
-ghost use Rattle.iobuf_node.specs.Answered.{cloned};
+ghost use Rattle.std.specs.Prelude.{◌≡◌, ◌+◌, ◌≤◌, List, [], ◌∷◌, length, None, Ok, IsOk, IfOk, IfErr, OnErr, OnOk, MatchOption, MatchResult};
+ghost use Rattle.buffer_model.specs.Share.{IsManaged};
+ghost use Rattle.buffer_model.specs.Clones.{Clones, MovesOut};
+ghost use Rattle.buffer_model.specs.Stake.{held};
+ghost use Rattle.iobuf_node.specs.Answered.{cloned, either_way, KeepsFor};
 
 use crate::make::on;
 use crate::mine::Mine;
 use crate::node::IoBuf;
 use share_count::Mint;
 use std::alloc::{AllocError, Global};
-use storage::Managed;
+use storage::{Managed, Told};
 
-impl<'a, O: Drop> IoBuf<'a, O> {
-    /// A second node with the same three lists. A wrapped node's is wrapped too, and takes no memory and no number. A managed node's is a copy of the whole block on a new storage.
+impl<'a, O: Told> IoBuf<'a, O> {
+    /// A second node with the same three lists. A managed node shares its storage: the second has a part of the weight, without an allocation or a copy. At weight 1 the second is a copy of the whole block on a new storage. A wrapped node's is wrapped too, and takes no memory.
     pub fn clone_one(&mut self, alloc: Global, mint: &mut Mint) -> Result<IoBuf<'a, O>, AllocError>
-        ensures clone { IfOk result (λ n. n ≡ shared_as n.share self.old) }
-        ensures stays { self.new ≡ self.old }
-        ensures wrapped { self.old.share.number ≡ None → result ≡ Ok self.old }
-        ensures wrapped_mint { self.old.share.number ≡ None → mint.new ≡ mint.old }
-        ensures managed { IsManaged self.old.share → IfOk result (λ n. n.share ≡ fresh mint.old own) }
-        ensures mint { IsManaged self.old.share → OnOk result (mint.new ≡ mint.old + 1) }
-        ensures refused { OnErr result (mint.old ≤ mint.new) }
-        ensures totals { KeepsTotalsBelow mint.old (held self.old.share ∷ []) (held self.new.share ∷ cloned result) }
+        ensures clone { IfOk result (Clones mint.old mint.new self.old self.new) }
+        ensures wrapped { self.old.share.number ≡ None → IsOk result }
+        ensures refused { OnErr result ((self.new ≡ self.old) × (mint.new ≡ mint.old)) }
+        ensures totals { KeepsFor mint.old self.old (held self.new.share ∷ cloned result) }
     {
         match self.again() {
             Some(node) => Ok(node),
-            None => self.duplicate(alloc, mint),
+            None => self.clone_managed(alloc, mint),
+        }
+    }
+
+    // The clone of a managed node.
+    fn clone_managed(&mut self, alloc: Global, mint: &mut Mint) -> Result<IoBuf<'a, O>, AllocError>
+        requires { IsManaged self.old.share }
+        ensures clone { IfOk result (Clones mint.old mint.new self.old self.new) }
+        ensures refused { OnErr result ((self.new ≡ self.old) × (mint.new ≡ mint.old)) }
+    {
+        match self.window.hold.share() {
+            Ok(Some(hold)) => Ok(on(hold, self.window.start, self.window.len)),
+            Ok(None) => self.duplicate(alloc, mint),
+            Err(e) => Err(e),
         }
     }
 
@@ -38,11 +47,10 @@ impl<'a, O: Drop> IoBuf<'a, O> {
     ) -> Result<IoBuf<'static, O>, IoBuf<'a, O>>
         ensures managed { IsManaged self.entry.share → result ≡ Ok self.entry }
         ensures managed_mint { IsManaged self.entry.share → mint.new ≡ mint.old }
-        ensures wrapped { self.entry.share.number ≡ None → IfOk result (λ n. n ≡ shared_as (fresh mint.old own) self.entry) }
-        ensures mint { self.entry.share.number ≡ None → OnOk result (mint.new ≡ mint.old + 1) }
+        ensures wrapped { self.entry.share.number ≡ None → IfOk result (λ n. MovesOut mint.old mint.new self.entry n) }
         ensures refused { IfErr result (λ n. n ≡ self.entry) }
-        ensures refused_mint { OnErr result (mint.old ≤ mint.new) }
-        ensures totals { MatchResult result (λ n. KeepsTotalsBelow mint.old (held self.entry.share ∷ []) (held n.share ∷ [])) (λ n. KeepsTotalsBelow mint.old (held self.entry.share ∷ []) (held n.share ∷ [])) }
+        ensures refused_mint { OnErr result (mint.new ≡ mint.old) }
+        ensures totals { KeepsFor mint.old self.entry (either_way result) }
     {
         if self.number().is_some() {
             return Ok(self.kept());
@@ -84,14 +92,10 @@ impl<'a, O: Drop> IoBuf<'a, O> {
         })
     }
 
-    // A copy of the whole block on a new storage.
-    pub(crate) fn duplicate(
-        &self,
-        alloc: Global,
-        mint: &mut Mint,
-    ) -> Result<IoBuf<'static, O>, AllocError>
-        ensures node { IfOk result (λ n. n ≡ shared_as (fresh mint.old own) self.now) }
-        ensures mint { MatchResult result (λ _. mint.new ≡ mint.old + 1) (λ _. mint.old ≤ mint.new) }
+    /// A second node with the same three lists, on a copy of the whole block on a new storage. One copy. Four allocations: the block, and three for its count.
+    pub fn duplicate(&self, alloc: Global, mint: &mut Mint) -> Result<IoBuf<'static, O>, AllocError>
+        ensures node { IfOk result (MovesOut mint.old mint.new self.now) }
+        ensures refused { OnErr result (mint.new ≡ mint.old) }
     {
         let start = self.headroom();
         let len = self.length();

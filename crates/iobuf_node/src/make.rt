@@ -1,27 +1,31 @@
 //! How nodes are made.
-ghost use Rattle.std.specs.Prelude.{◌≡◌, ◌+◌, ◌≤◌, ◌<◌, ◌^◌, List, [], ◌∷◌, ◌++◌, IfOk, IfErr, MatchResult, length, replicate};
-ghost use Rattle.buffer_model.specs.Share.{fresh, own, lent, IsManaged};
-ghost use Rattle.buffer_model.specs.Segment.{between_rooms, cut, with_span};
-ghost use Rattle.storage.specs.Held.{with_bytes};
+ghost use Rattle.std.specs.Prelude.{◌≡◌, ◌+◌, ◌≤◌, ◌<◌, ◌^◌, List, [], ◌∷◌, ◌++◌, IfOk, IfErr, OnErr, MatchResult, length, replicate};
+ghost use Rattle.raw_block.specs.Spans.{with_span};
+ghost use Rattle.buffer_model.specs.Share.{own, user, lent, tagged, IsAlone};
+ghost use Rattle.buffer_model.specs.Segment.{between_rooms, whole_window, cut};
 ghost use Rattle.buffer_model.specs.Stake.{held, KeepsTotalsBelow};
+ghost use Rattle.buffer_model.specs.Minted.{Adds, IsNew};
+ghost use Rattle.storage.specs.Held.{with_bytes};
+ghost use Rattle.storage.specs.Made.{Makes};
 
 use crate::mine::Mine;
 use crate::node::IoBuf;
 use relay_ports::Lent;
 use share_count::Mint;
 use std::alloc::{AllocError, Global};
-use storage::Managed;
+use storage::{Managed, Told};
 
-impl<O: Drop> IoBuf<'static, O> {
-    /// A node without data on a new storage of `cap` zero bytes. One allocation.
+impl<O: Told> IoBuf<'static, O> {
+    /// A node without data on a new storage of `cap` zero bytes. Four allocations: the block, and three for its count.
     pub fn create(
         alloc: Global,
         cap: usize,
         mint: &mut Mint,
     ) -> Result<IoBuf<'static, O>, AllocError>
-        ensures node { IfOk result (λ n. n ≡ between_rooms 0 cap [] (fresh mint.old own)) }
-        ensures mint { MatchResult result (λ _. mint.new ≡ mint.old + 1) (λ _. mint.old ≤ mint.new) }
-        ensures totals { IfOk result (λ n. KeepsTotalsBelow mint.old [] (held n.share ∷ [])) }
+        ensures node { IfOk result (λ n. n ≡ between_rooms 0 cap [] n.share) }
+        ensures storage { IfOk result (λ n. IsNew mint.old mint.new own n.share) }
+        ensures mint { MatchResult result (λ _. Adds 1 mint.old mint.new) (λ _. mint.new ≡ mint.old) }
+        ensures totals { IfOk result (λ n. KeepsTotalsBelow (length mint.old) [] (held n.share ∷ [])) }
     {
         match Managed::own(alloc, cap, mint) {
             Ok(hold) => Ok(on(hold, 0, 0)),
@@ -29,7 +33,7 @@ impl<O: Drop> IoBuf<'static, O> {
         }
     }
 
-    /// A node on a copy of these bytes, with zero bytes in both rooms. One allocation and one copy.
+    /// A node on a copy of these bytes, with zero bytes in both rooms. One copy. Four allocations: the block, and three for its count.
     pub fn copy(
         alloc: Global,
         bytes: &[u8],
@@ -38,9 +42,10 @@ impl<O: Drop> IoBuf<'static, O> {
         mint: &mut Mint,
     ) -> Result<IoBuf<'static, O>, AllocError>
         requires { head + length bytes.now + tail < 2 ^ 64 }
-        ensures node { IfOk result (λ n. n ≡ between_rooms head tail bytes.now (fresh mint.old own)) }
-        ensures mint { MatchResult result (λ _. mint.new ≡ mint.old + 1) (λ _. mint.old ≤ mint.new) }
-        ensures totals { IfOk result (λ n. KeepsTotalsBelow mint.old [] (held n.share ∷ [])) }
+        ensures node { IfOk result (λ n. n ≡ between_rooms head tail bytes.now n.share) }
+        ensures storage { IfOk result (λ n. IsNew mint.old mint.new own n.share) }
+        ensures mint { MatchResult result (λ _. Adds 1 mint.old mint.new) (λ _. mint.new ≡ mint.old) }
+        ensures totals { IfOk result (λ n. KeepsTotalsBelow (length mint.old) [] (held n.share ∷ [])) }
     {
         match roomed(alloc, bytes, head, tail, mint) {
             Ok(hold) => Ok(on(hold, head, bytes.len())),
@@ -48,7 +53,47 @@ impl<O: Drop> IoBuf<'static, O> {
         }
     }
 
-    /// A node on a lent block, where it is: its first `used` bytes are data. At want of memory the block is handed back.
+    /// A node on these bytes, where they are, all of them data. The owner is told them when their storage ends. No copy, three allocations for the count. At want of memory both are handed back.
+    pub fn take_ownership(
+        alloc: Global,
+        bytes: Vec<u8>,
+        owner: O,
+        mint: &mut Mint,
+    ) -> Result<IoBuf<'static, O>, (Vec<u8>, O)>
+        ensures node { IfOk result (λ n. n ≡ whole_window bytes.items n.share) }
+        ensures storage { IfOk result (λ n. IsNew mint.old mint.new (user owner) n.share) }
+        ensures mint { MatchResult result (λ _. Adds 1 mint.old mint.new) (λ _. mint.new ≡ mint.old) }
+        ensures refused { IfErr result (λ back. back ≡ (bytes, owner)) }
+        ensures totals { IfOk result (λ n. KeepsTotalsBelow (length mint.old) [] (held n.share ∷ [])) }
+    {
+        let len = bytes.len();
+        match Managed::user(alloc, bytes, owner, mint) {
+            Ok(hold) => Ok(on(hold, 0, len)),
+            Err(back) => Err(back),
+        }
+    }
+
+    /// A node on these bytes, where they are, all of them data. Their storage answers the tag when it ends. No copy, three allocations for the count. At want of memory the bytes are handed back.
+    pub fn take_tagged(
+        alloc: Global,
+        bytes: Vec<u8>,
+        tag: u32,
+        mint: &mut Mint,
+    ) -> Result<IoBuf<'static, O>, Vec<u8>>
+        ensures node { IfOk result (λ n. n ≡ whole_window bytes.items n.share) }
+        ensures storage { IfOk result (λ n. IsNew mint.old mint.new (tagged tag) n.share) }
+        ensures mint { MatchResult result (λ _. Adds 1 mint.old mint.new) (λ _. mint.new ≡ mint.old) }
+        ensures refused { IfErr result (λ b. b ≡ bytes) }
+        ensures totals { IfOk result (λ n. KeepsTotalsBelow (length mint.old) [] (held n.share ∷ [])) }
+    {
+        let len = bytes.len();
+        match Managed::tagged(alloc, bytes, tag, mint) {
+            Ok(hold) => Ok(on(hold, 0, len)),
+            Err(bytes) => Err(bytes),
+        }
+    }
+
+    /// A node on a lent block, where it is: its first `used` bytes are data. No copy, three allocations for the count. At want of memory the block is handed back.
     pub fn from_lent(
         alloc: Global,
         block: Lent,
@@ -56,10 +101,11 @@ impl<O: Drop> IoBuf<'static, O> {
         mint: &mut Mint,
     ) -> Result<IoBuf<'static, O>, Lent>
         requires { used ≤ length block.bytes.items }
-        ensures node { IfOk result (λ n. n ≡ cut block.bytes.items 0 used (fresh mint.old (lent block.number))) }
-        ensures mint { MatchResult result (λ _. mint.new ≡ mint.old + 1) (λ _. mint.old ≤ mint.new) }
+        ensures node { IfOk result (λ n. n ≡ cut block.bytes.items 0 used n.share) }
+        ensures storage { IfOk result (λ n. IsNew mint.old mint.new (lent block.number) n.share) }
+        ensures mint { MatchResult result (λ _. Adds 1 mint.old mint.new) (λ _. mint.new ≡ mint.old) }
         ensures refused { IfErr result (λ b. b ≡ block) }
-        ensures totals { IfOk result (λ n. KeepsTotalsBelow mint.old [] (held n.share ∷ [])) }
+        ensures totals { IfOk result (λ n. KeepsTotalsBelow (length mint.old) [] (held n.share ∷ [])) }
     {
         match Managed::lent(alloc, block, mint) {
             Ok(hold) => Ok(on(hold, 0, used)),
@@ -69,7 +115,7 @@ impl<O: Drop> IoBuf<'static, O> {
 }
 
 // A node on a managed hold.
-pub(crate) fn on<O: Drop>(hold: Managed<O>, start: usize, len: usize) -> IoBuf<'static, O>
+pub(crate) fn on<O: Told>(hold: Managed<O>, start: usize, len: usize) -> IoBuf<'static, O>
     ensures { result ≡ cut hold.bytes start len hold.share }
 {
     IoBuf {
@@ -79,7 +125,7 @@ pub(crate) fn on<O: Drop>(hold: Managed<O>, start: usize, len: usize) -> IoBuf<'
 }
 
 // A new storage with a copy of these bytes between two rooms of zero bytes.
-pub(crate) fn roomed<O: Drop>(
+pub(crate) fn roomed<O: Told>(
     alloc: Global,
     bytes: &[u8],
     head: usize,
@@ -87,23 +133,23 @@ pub(crate) fn roomed<O: Drop>(
     mint: &mut Mint,
 ) -> Result<Managed<O>, AllocError>
     requires { head + length bytes.now + tail < 2 ^ 64 }
-    ensures hold { IfOk result (λ h. h ≡ record { bytes = replicate head 0 ++ (bytes.now ++ replicate tail 0); share = fresh mint.old own }) }
-    ensures mint { MatchResult result (λ _. mint.new ≡ mint.old + 1) (λ _. mint.old ≤ mint.new) }
+    ensures hold { IfOk result (Makes mint.old mint.new own (replicate head 0 ++ (bytes.now ++ replicate tail 0))) }
+    ensures refused { OnErr result (mint.new ≡ mint.old) }
 {
     let end = head + bytes.len();
     match Managed::own(alloc, end + tail, mint) {
-        Ok(hold) => Ok(filled(hold, head, bytes)),
+        Ok(hold) => Ok(filled(hold, head, end, bytes)),
         Err(e) => Err(e),
     }
 }
 
-// The hold with these bytes written from `head` on.
-fn filled<O: Drop>(mut hold: Managed<O>, head: usize, bytes: &[u8]) -> Managed<O>
-    requires managed { IsManaged hold.share }
-    requires room { head + length bytes.now ≤ length hold.bytes }
+// The hold with these bytes written from `head` up to `end`.
+fn filled<O: Told>(mut hold: Managed<O>, head: usize, end: usize, bytes: &[u8]) -> Managed<O>
+    requires alone { IsAlone hold.share }
+    requires size { end ≡ head + length bytes.now }
+    requires room { end ≤ length hold.bytes }
     ensures { result ≡ with_bytes hold (with_span hold.bytes head bytes.now) }
 {
-    hold.span_mut(head, head + bytes.len())
-        .copy_from_slice(bytes);
+    hold.span_mut(head, end).copy_from_slice(bytes);
     hold
 }

@@ -1,28 +1,28 @@
 //! Windows on blocks.
 ghost use Rattle.std.specs.Prelude.{◌≡◌, ◌+◌, ◌-◌, ◌≤◌, ◌<◌, ◌^◌, List, [], ◌∷◌, length};
-ghost use Rattle.buffer_model.specs.Share.{IsManaged};
+ghost use Rattle.buffer_model.specs.Share.{IsAlone};
 ghost use Rattle.buffer_model.specs.Segment.{advanced, retreated, block_of};
 ghost use Rattle.buffer_model.specs.Stake.{held, KeepsTotals};
-ghost use Rattle.iobuf_node.specs.Mine.{seen};
+ghost use Rattle.iobuf_node.specs.Mine.{seen, size};
 
-use storage::{Managed, NoOwner};
+use storage::{Managed, NoOwner, Told};
 
-/// The window of a node, as `IoBuf::mine` lends it where nobody else holds the storage. Contracts see it by `seen`: its three lists, and what the node has of the storage.
+/// The window of a node, as `IoBuf::mine` lends it where nobody else holds the storage: until the node is shared, its bytes may be written. Contracts see it by `seen`: its three lists, and what the node has of the storage.
 #[derive(Drop)]
-pub struct Mine<O: Drop = NoOwner> {
+pub struct Mine<O: Told = NoOwner> {
     pub(crate) hold: Managed<O>,
     pub(crate) start: usize,
     pub(crate) len: usize,
 }
 
-impl<O: Drop> Mine<O> {
+impl<O: Told> Mine<O> {
     ghost use Rattle.std.specs.Borrow.{sem};
     ghost use Rattle.iobuf_node.specs.MineLends.{lends_window};
 
     // How many bytes lie before the window.
     pub(crate) fn head(&self) -> usize
         ensures value { result ≡ length (seen self.now).before }
-        ensures fits { length (seen self.now).before + (length (seen self.now).window + length (seen self.now).after) < 2 ^ 64 }
+        ensures fits { size (seen self.now) < 2 ^ 64 }
     {
         self.start.min(self.hold.bytes().len())
     }
@@ -42,9 +42,9 @@ impl<O: Drop> Mine<O> {
         self.hold.bytes().len() - self.head() - self.length()
     }
 
-    /// The data, for writing.
+    /// The data, for writing. Where as many bytes are written, the window has these and both rooms stay (`laws::writes_window`). Takes no look.
     pub fn bytes_mut(&mut self) -> &mut [u8]
-        requires { IsManaged (seen self.old).share }
+        requires { IsAlone (seen self.old).share }
         ensures* lends { sem 𝓛 (lends_window O.row self.entry result) }
         ensures value { result.now ≡ (seen self.old).window }
     {
@@ -55,9 +55,9 @@ impl<O: Drop> Mine<O> {
         self.hold.span_mut(start, start + len)
     }
 
-    /// Copies the data `n` places on, and follows it. One overlapping copy in the block, O(data), and no memory.
+    /// Copies the data `n` places on, and follows it. Takes no look. One overlapping copy in the block, O(data), and no memory.
     pub fn advance(&mut self, n: usize)
-        requires managed { IsManaged (seen self.old).share }
+        requires alone { IsAlone (seen self.old).share }
         requires room { n ≤ length (seen self.old).after }
         ensures window { seen self.new ≡ advanced n (seen self.old) }
         ensures totals { KeepsTotals (held (seen self.old).share ∷ []) (held (seen self.new).share ∷ []) }
@@ -70,9 +70,9 @@ impl<O: Drop> Mine<O> {
         self.len = len;
     }
 
-    /// Copies the data `n` places back, and follows it. One overlapping copy in the block, O(data), and no memory.
+    /// Copies the data `n` places back, and follows it. Takes no look. One overlapping copy in the block, O(data), and no memory.
     pub fn retreat(&mut self, n: usize)
-        requires managed { IsManaged (seen self.old).share }
+        requires alone { IsAlone (seen self.old).share }
         requires room { n ≤ length (seen self.old).before }
         ensures window { seen self.new ≡ retreated n (seen self.old) }
         ensures totals { KeepsTotals (held (seen self.old).share ∷ []) (held (seen self.new).share ∷ []) }

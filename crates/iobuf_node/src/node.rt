@@ -1,22 +1,25 @@
 //! Nodes.
 ghost use Rattle.std.specs.Prelude.{◌≡◌, ◌+◌, ◌-◌, ◌≤◌, ◌<◌, ◌^◌, ◌↔◌, List, [], ◌∷◌, Option, Some, None, IsTrue, IsOk, IfOk, IfErr, length};
-ghost use Rattle.buffer_model.specs.Share.{IsShare, IsWhole, IsManaged, wrapped};
-ghost use Rattle.buffer_model.specs.Segment.{Segment, whole_window, trimmed_start, trimmed_end, appended, prepended, advanced, retreated, block_of, hold_of};
-ghost use Rattle.buffer_model.specs.Stake.{held, KeepsTotals};
-ghost use Rattle.storage.specs.Back.{Bars, GivesBack, stakes_of};
+ghost use Rattle.buffer_model.specs.Share.{IsShare, IsWhole, IsManaged, IsAlone, IsOfStorage, wrapped, claimed, absorbed_in};
+ghost use Rattle.buffer_model.specs.Segment.{Segment, whole_window, trimmed_start, trimmed_end, appended, prepended, block_of, hold_of, shared_as};
+ghost use Rattle.buffer_model.specs.Stake.{held, counted, KeepsTotals};
+ghost use Rattle.storage.specs.Back.{GivesBack, stakes_of};
+ghost use Rattle.storage.specs.Looks.{Stands, Claims, Bars};
 
 use crate::mine::Mine;
+use share_count::Standing;
+use std::fmt;
 use std::marker::Model;
-use storage::{Back, Barred, Managed, NoOwner, Release};
+use storage::{Back, Barred, Managed, NoOwner, Receipt, Release, Told};
 
-/// A window on a block: some bytes, with the room before and after them. Contracts see the three lists, and what the node has of the storage.
+/// A window on a block: some bytes, with the room before and after them. A drop gives the node's storage back: at the last an owner is told, but a lent block and a tag go nowhere, and the receipt is lost. Contracts see the three lists, and what the node has of the storage.
 #[derive(Drop)]
-pub struct IoBuf<'a, O: Drop = NoOwner> {
+pub struct IoBuf<'a, O: Told = NoOwner> {
     pub(crate) wrapped: Option<&'a [u8]>,
     pub(crate) window: Mine<O>,
 }
 
-impl<'a, O: Drop> Model for IoBuf<'a, O> {
+impl<'a, O: Told> Model for IoBuf<'a, O> {
     ghost use Rattle.buffer_model.specs.Segment.{Segment};
 
     ghost Value = { Segment O };
@@ -26,7 +29,9 @@ impl<'a, O: Drop> Model for IoBuf<'a, O> {
     ghost view = { λ n. shown n.wrapped n.window };
 }
 
-impl<'a, O: Drop> IoBuf<'a, O> {
+impl<'a, O: Told> IoBuf<'a, O> {
+    ghost use Rattle.iobuf_node.specs.Mine.{size};
+
     /// A node on bytes that stay where they are, all of them data. O(1), and no memory.
     pub fn wrap(bytes: &'a [u8]) -> IoBuf<'a, O>
         ensures { result ≡ whole_window bytes.now wrapped }
@@ -42,8 +47,8 @@ impl<'a, O: Drop> IoBuf<'a, O> {
         }
     }
 
-    // All bytes of the block.
-    pub(crate) fn block(&self) -> &[u8]
+    /// All bytes of the block: both rooms, with the data between them.
+    pub fn block(&self) -> &[u8]
         ensures { result.now ≡ block_of self.now }
     {
         match self.wrapped {
@@ -72,7 +77,7 @@ impl<'a, O: Drop> IoBuf<'a, O> {
     /// How many bytes lie before the data.
     pub fn headroom(&self) -> usize
         ensures value { result ≡ length self.now.before }
-        ensures fits { length self.now.before + (length self.now.window + length self.now.after) < 2 ^ 64 }
+        ensures fits { size self.now < 2 ^ 64 }
     {
         self.window.start.min(self.block().len())
     }
@@ -172,35 +177,60 @@ impl<'a, O: Drop> IoBuf<'a, O> {
     }
 }
 
-impl<'a, O: Drop> IoBuf<'a, O> {
+impl<'a, O: Told> IoBuf<'a, O> {
     ghost use Rattle.std.specs.Borrow.{sem};
     ghost use Rattle.iobuf_node.specs.Mine.{seen};
-    ghost use Rattle.iobuf_node.specs.NodeLends.{lends_mine};
+    ghost use Rattle.iobuf_node.specs.NodeLends.{lends_mine, refused_by};
 
     /// Lends the window for writing, where a look finds that nobody else holds the node's storage. No memory.
     pub fn mine(&mut self) -> Result<&mut Mine<O>, Barred>
         ensures* lends { sem 𝓛 (lends_mine O.row self.entry result) }
-        ensures value { IfOk result (λ m. seen m.now ≡ self.old) }
+        ensures window { IfOk result (λ m. seen m.now ≡ shared_as (claimed self.old.share) self.old) }
+        ensures alone { IfOk result (λ m. IsAlone (seen m.now).share) }
         ensures totals { IfOk result (λ m. KeepsTotals (held self.old.share ∷ []) (held (seen m.now).share ∷ [])) }
-        ensures managed { IfOk result (λ m. IsManaged (seen m.now).share) }
-        ensures barred { IfErr result (Bars self.old.share.number self.old.share.weight) }
+        ensures managed { IsOk result → IsManaged self.old.share }
+        ensures barred { IfErr result (λ reason. Bars self.old.share (refused_by reason self.old.share) reason) }
         ensures whole { IsWhole self.old.share → IsOk result }
+        ensures already { IsAlone self.old.share → IsOk result }
     {
-        self.look()?;
+        self.claim()?;
         Ok(&mut self.window)
     }
 
-    // Looks whether the node may be written.
-    pub(crate) fn look(&mut self) -> Result<(), Barred>
-        ensures same { self.new ≡ self.old }
-        ensures managed { IsOk result → IsManaged self.old.share }
-        ensures barred { IfErr result (Bars self.old.share.number self.old.share.weight) }
+    // Claims the storage for writing, by one look.
+    fn claim(&mut self) -> Result<(), Barred>
+        ensures lists { self.new ≡ shared_as self.new.share self.old }
+        ensures claim { Claims self.old.share self.new.share result }
         ensures whole { IsWhole self.old.share → IsOk result }
+        ensures already { IsAlone self.old.share → IsOk result }
     {
         if self.wrapped.is_some() {
             return Err(Barred::Unmanaged);
         }
-        self.window.hold.look()
+        self.window.hold.write()
+    }
+
+    // Looks whether others hold the storage. Wrapped bytes always stand as shared.
+    pub(crate) fn standing(&mut self) -> Standing
+        ensures lists { self.new ≡ shared_as self.new.share self.old }
+        ensures found { Stands self.old.share self.new.share result }
+        ensures whole { IsWhole self.old.share → result ≡ Standing.Sole }
+        ensures alone { IsAlone self.old.share → result ≡ Standing.Sole }
+    {
+        if self.wrapped.is_some() {
+            return Standing::Shared { found: 0 };
+        }
+        self.window.hold.standing()
+    }
+
+    /// Takes a receipt of the node's storage in. Its weight counts as this node's from then on. No memory.
+    pub fn absorb(&mut self, receipt: Receipt<O>)
+        requires { IsOfStorage self.old.share receipt }
+        ensures lasts { receipt.lasts ≡ 0 }
+        ensures window { self.new ≡ shared_as (absorbed_in receipt.weight self.old.share) self.old }
+        ensures totals { KeepsTotals (held self.old.share ∷ counted receipt ∷ []) (held self.new.share ∷ []) }
+    {
+        self.window.hold.absorb(receipt);
     }
 }
 
@@ -217,5 +247,18 @@ impl<'a, O: Release> IoBuf<'a, O> {
             Some(_) => Back::Nothing,
             None => hold.give_back(),
         }
+    }
+}
+
+impl<'a, O: Told> fmt::Debug for IoBuf<'a, O> {
+    fn fmt<W: fmt::Write>(&self, f: &mut fmt::Formatter<W>) -> fmt::Result {
+        write!(
+            f,
+            "IoBuf {{ number: {:?}, headroom: {}, length: {}, tailroom: {} }}",
+            self.number(),
+            self.headroom(),
+            self.length(),
+            self.tailroom()
+        )
     }
 }

@@ -1,20 +1,23 @@
 //! Rooms, copies and clones of nodes.
 ghost use Rattle.std.specs.Prelude.{◌≡◌, ◌+◌, ◌≤◌, ◌<◌, ◌^◌, ◌↔◌, List, [], ◌∷◌, ◌++◌, None, Ok, IsOk, IsNone, IsSome, IfNone, IfSome, IfOk, IfErr, OnErr, OnOk, MatchResult, length, replicate};
-ghost use Rattle.buffer_model.specs.Share.{IsWhole, IsManaged, fresh, own};
-ghost use Rattle.buffer_model.specs.Segment.{between_rooms, cut, block_of, hold_of, shared_as};
-ghost use Rattle.buffer_model.specs.Stake.{held, KeepsTotals, KeepsTotalsBelow};
+ghost use Rattle.buffer_model.specs.Share.{IsWhole, IsAlone, own};
+ghost use Rattle.buffer_model.specs.Segment.{between_rooms, hold_of};
+ghost use Rattle.buffer_model.specs.Minted.{Adds, IsNew};
+ghost use Rattle.buffer_model.specs.Clones.{StaysSole, StaysShared, MovesOut};
+ghost use Rattle.buffer_model.specs.Stake.{held, KeepsTotals};
 ghost use Rattle.storage.specs.Back.{GivesBack, stakes_of};
-ghost use Rattle.iobuf_node.specs.Answered.{answered};
+ghost use Rattle.iobuf_node.specs.Answered.{answered, KeepsFor};
+ghost use Rattle.iobuf_node.specs.Roomed.{HasRoom, MakesRoom};
 
 use crate::make::{on, roomed};
 use crate::node::IoBuf;
-use share_count::Mint;
+use share_count::{Mint, Standing};
 use std::alloc::{AllocError, Global};
 use std::mem;
 use storage::{Back, Release};
 
 impl<'a, O: Release> IoBuf<'a, O> {
-    /// Makes both rooms at least this large. Where one isn't, the data is copied to a new storage with exactly these rooms, zero, and the old storage is given back. At most one allocation and one copy of the data.
+    /// Makes both rooms at least this large. Where one isn't, the data is copied to a new storage with exactly these rooms, zero, and the old storage is given back. At most one copy of the data, with four allocations.
     pub fn reserve(
         &mut self,
         alloc: Global,
@@ -22,13 +25,13 @@ impl<'a, O: Release> IoBuf<'a, O> {
         tail: usize,
         mint: &mut Mint,
     ) -> Result<Option<Back<O>>, AllocError>
-        ensures enough { IfOk result (λ b. IsNone b ↔ ((head ≤ length self.old.before) × (tail ≤ length self.old.after))) }
+        ensures enough { IfOk result (λ b. IsNone b ↔ HasRoom head tail self.old) }
         ensures stays { IfOk result (λ b. IfNone b ((self.new ≡ self.old) × (mint.new ≡ mint.old))) }
-        ensures window { IfOk result (λ b. IfSome b (λ _. self.new ≡ between_rooms head tail self.old.window (fresh mint.old own))) }
+        ensures window { IfOk result (λ b. IfSome b (λ _. MakesRoom mint.old mint.new head tail self.old self.new)) }
+        ensures room { HasRoom head tail self.old → result ≡ Ok None }
         ensures back { IfOk result (λ b. IfSome b (GivesBack O.runs O.last (hold_of self.old))) }
-        ensures mint { IfOk result (λ b. IfSome b (λ _. mint.new ≡ mint.old + 1)) }
-        ensures refused { OnErr result ((self.new ≡ self.old) × (mint.old ≤ mint.new)) }
-        ensures totals { KeepsTotalsBelow mint.old (held self.old.share ∷ []) (held self.new.share ∷ answered result) }
+        ensures refused { OnErr result ((self.new ≡ self.old) × (mint.new ≡ mint.old)) }
+        ensures totals { KeepsFor mint.old self.old (held self.new.share ∷ answered result) }
     {
         let before = self.headroom();
         let after = self.tailroom();
@@ -49,10 +52,9 @@ impl<'a, O: Release> IoBuf<'a, O> {
         tail: usize,
         mint: &mut Mint,
     ) -> Result<Back<O>, AllocError>
-        ensures window { OnOk result (self.new ≡ between_rooms head tail self.old.window (fresh mint.old own)) }
+        ensures window { OnOk result (MakesRoom mint.old mint.new head tail self.old self.new) }
         ensures back { IfOk result (GivesBack O.runs O.last (hold_of self.old)) }
-        ensures mint { OnOk result (mint.new ≡ mint.old + 1) }
-        ensures refused { OnErr result ((self.new ≡ self.old) × (mint.old ≤ mint.new)) }
+        ensures refused { OnErr result ((self.new ≡ self.old) × (mint.new ≡ mint.old)) }
         ensures totals { IfOk result (λ back. KeepsTotals (held self.old.share ∷ []) (stakes_of back)) }
     {
         let len = self.length();
@@ -80,11 +82,10 @@ impl<'a, O: Release> IoBuf<'a, O> {
     // Moves to a copy of the whole block.
     fn move_out(&mut self, alloc: Global, mint: &mut Mint) -> Result<Option<Back<O>>, AllocError>
         ensures some { IfOk result (λ b. IsSome b) }
-        ensures window { OnOk result (self.new ≡ shared_as (fresh mint.old own) self.old) }
+        ensures window { OnOk result (MovesOut mint.old mint.new self.old self.new) }
         ensures back { IfOk result (λ b. IfSome b (GivesBack O.runs O.last (hold_of self.old))) }
-        ensures mint { OnOk result (mint.new ≡ mint.old + 1) }
-        ensures refused { OnErr result ((self.new ≡ self.old) × (mint.old ≤ mint.new)) }
-        ensures totals { KeepsTotalsBelow mint.old (held self.old.share ∷ []) (held self.new.share ∷ answered result) }
+        ensures refused { OnErr result ((self.new ≡ self.old) × (mint.new ≡ mint.old)) }
+        ensures totals { KeepsFor mint.old self.old (held self.new.share ∷ answered result) }
     {
         match self.duplicate(alloc, mint) {
             Ok(node) => Ok(Some(self.renew(node))),
@@ -98,17 +99,17 @@ impl<'a, O: Release> IoBuf<'a, O> {
         alloc: Global,
         mint: &mut Mint,
     ) -> Result<Option<Back<O>>, AllocError>
-        ensures stays { IfOk result (λ b. IfNone b (IsManaged self.old.share × (self.new ≡ self.old) × (mint.new ≡ mint.old))) }
+        ensures stays { IfOk result (λ b. IfNone b (StaysSole self.old self.new × (mint.new ≡ mint.old))) }
         ensures whole { IsWhole self.old.share → result ≡ Ok None }
-        ensures window { IfOk result (λ b. IfSome b (λ _. self.new ≡ shared_as (fresh mint.old own) self.old)) }
+        ensures alone { IsAlone self.old.share → result ≡ Ok None }
+        ensures window { IfOk result (λ b. IfSome b (λ _. MovesOut mint.old mint.new self.old self.new)) }
         ensures back { IfOk result (λ b. IfSome b (GivesBack O.runs O.last (hold_of self.old))) }
-        ensures mint { IfOk result (λ b. IfSome b (λ _. mint.new ≡ mint.old + 1)) }
-        ensures refused { OnErr result ((self.new ≡ self.old) × (mint.old ≤ mint.new)) }
-        ensures totals { KeepsTotalsBelow mint.old (held self.old.share ∷ []) (held self.new.share ∷ answered result) }
+        ensures refused { OnErr result (StaysShared self.old self.new × (mint.new ≡ mint.old)) }
+        ensures totals { KeepsFor mint.old self.old (held self.new.share ∷ answered result) }
     {
-        match self.look() {
-            Ok(()) => Ok(None),
-            Err(_) => self.move_out(alloc, mint),
+        match self.standing() {
+            Standing::Sole => Ok(None),
+            Standing::Shared { .. } => self.move_out(alloc, mint),
         }
     }
 
@@ -121,11 +122,10 @@ impl<'a, O: Release> IoBuf<'a, O> {
         ensures known { IfOk result (λ b. IsNone b ↔ IsWhole self.old.share) }
         ensures whole { IsWhole self.old.share → result ≡ Ok None }
         ensures stays { IfOk result (λ b. IfNone b ((self.new ≡ self.old) × (mint.new ≡ mint.old))) }
-        ensures window { IfOk result (λ b. IfSome b (λ _. self.new ≡ shared_as (fresh mint.old own) self.old)) }
+        ensures window { IfOk result (λ b. IfSome b (λ _. MovesOut mint.old mint.new self.old self.new)) }
         ensures back { IfOk result (λ b. IfSome b (GivesBack O.runs O.last (hold_of self.old))) }
-        ensures mint { IfOk result (λ b. IfSome b (λ _. mint.new ≡ mint.old + 1)) }
-        ensures refused { OnErr result ((self.new ≡ self.old) × (mint.old ≤ mint.new)) }
-        ensures totals { KeepsTotalsBelow mint.old (held self.old.share ∷ []) (held self.new.share ∷ answered result) }
+        ensures refused { OnErr result ((self.new ≡ self.old) × (mint.new ≡ mint.old)) }
+        ensures totals { KeepsFor mint.old self.old (held self.new.share ∷ answered result) }
     {
         if self.whole() {
             return Ok(None);

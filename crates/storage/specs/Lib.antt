@@ -1,7 +1,10 @@
+pub mod Ends
+pub mod Stored
+pub mod Made
 pub mod Back
+pub mod Looks
 pub mod Held
-pub mod Slot
-pub mod BlockLends
-pub mod SlotLends
+pub mod Listed
+pub mod UnitLends
 pub mod ManagedLends
 pub mod HoldLends

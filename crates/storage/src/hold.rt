@@ -1,26 +1,29 @@
 //! Holds on storages and on borrowed bytes.
-ghost use Rattle.std.specs.Prelude.{◌≡◌, ◌+◌, ◌≤◌, ◌↔◌, List, [], ◌∷◌, Option, Some, None, IsTrue, IsOk, IfOk, IfErr, MatchResult, replicate};
-ghost use Rattle.buffer_model.specs.Share.{Held, IsShare, IsWhole, IsManaged, wrapped, fresh, own, lent};
-ghost use Rattle.buffer_model.specs.Stake.{held, KeepsTotals};
-ghost use Rattle.storage.specs.Back.{IsStanding, Bars, GivesBack, stakes_of};
+ghost use Rattle.std.specs.Prelude.{◌≡◌, ◌+◌, ◌≤◌, ◌↔◌, List, [], ◌∷◌, Option, Some, None, IsTrue, IsOk, IfOk, IfErr, OnErr, OnOk, MatchResult, replicate};
+ghost use Rattle.buffer_model.specs.Share.{IsShare, IsWhole, IsAlone, IsOfStorage, wrapped, absorbed_in, own, user, lent, tagged};
+ghost use Rattle.buffer_model.specs.Stake.{held, counted, KeepsTotals};
+ghost use Rattle.storage.specs.Made.{Makes};
+ghost use Rattle.storage.specs.Looks.{Stands, Claims};
+ghost use Rattle.storage.specs.Back.{GivesBack, stakes_of};
 
-use crate::back::Back;
-use crate::block::Block;
+use crate::back::{Back, Receipt};
 use crate::managed::Managed;
-use crate::release::{NoOwner, Release};
+use crate::release::{NoOwner, Release, Told};
 use relay_ports::Lent;
 use share_count::{Mint, Standing};
 use std::alloc::{AllocError, Global};
+use std::fmt;
 use std::marker::Model;
+use thiserror::Error;
 
-/// A hold on a storage, or on bytes that are only borrowed. Contracts see the bytes of the block and what the hold has of the storage.
+/// A hold on a storage, or on bytes that are only borrowed. A drop gives the hold back: at the last an owner is told, but a lent block and a tag go nowhere, and the receipt is lost. Contracts see the bytes of the block and what the hold has of the storage.
 #[derive(Drop)]
-pub struct Hold<'a, O: Drop = NoOwner> {
+pub struct Hold<'a, O: Told = NoOwner> {
     wrapped: Option<&'a [u8]>,
     managed: Managed<O>,
 }
 
-impl<'a, O: Drop> Model for Hold<'a, O> {
+impl<'a, O: Told> Model for Hold<'a, O> {
     ghost use Rattle.buffer_model.specs.Share.{Held};
 
     ghost Value = { Held O };
@@ -30,49 +33,90 @@ impl<'a, O: Drop> Model for Hold<'a, O> {
     ghost view = { λ h. held_on h.wrapped h.managed };
 }
 
-/// Why a hold isn't lent for writing.
-#[derive(Drop)]
+/// Why a hold may not be written.
+#[derive(Debug, Clone, Copy, PartialEq, Eq, Error)]
 pub enum Barred {
     /// Others may hold the storage: the weight of all live holds as it was found.
+    #[error("others may hold the storage: the weight that was found is {found}")]
     SharedNow { found: u64 },
     /// The bytes are only borrowed.
+    #[error("the bytes are only borrowed")]
     Unmanaged,
 }
 
-impl<O: Drop> Hold<'static, O> {
-    /// A new storage of `cap` zero bytes. One allocation, O(cap).
+impl<O: Told> Hold<'static, O> {
+    /// A new storage of `cap` zero bytes. O(cap). Four allocations: the block, and three for its count.
     pub fn own(alloc: Global, cap: usize, mint: &mut Mint) -> Result<Hold<'static, O>, AllocError>
-        ensures hold { IfOk result (λ h. h ≡ record { bytes = replicate cap 0; share = fresh mint.old own }) }
-        ensures mint { MatchResult result (λ _. mint.new ≡ mint.old + 1) (λ _. mint.old ≤ mint.new) }
+        ensures hold { IfOk result (Makes mint.old mint.new own (replicate cap 0)) }
+        ensures refused { OnErr result (mint.new ≡ mint.old) }
     {
         match Managed::own(alloc, cap, mint) {
-            Ok(managed) => Ok(Hold {
-                wrapped: None,
-                managed,
-            }),
+            Ok(managed) => Ok(on(managed)),
             Err(e) => Err(e),
         }
     }
 
-    /// A new storage of a lent block's bytes, where they are. No copy. At want of memory the block is handed back.
+    /// A new storage of these bytes, where they are, whose owner is told when it ends. No copy, three allocations for the count. At want of memory both are handed back.
+    pub fn user(
+        alloc: Global,
+        bytes: Vec<u8>,
+        owner: O,
+        mint: &mut Mint,
+    ) -> Result<Hold<'static, O>, (Vec<u8>, O)>
+        ensures hold { IfOk result (Makes mint.old mint.new (user owner) bytes.items) }
+        ensures refused { IfErr result (λ back. back ≡ (bytes, owner)) }
+        ensures refused_mint { OnErr result (mint.new ≡ mint.old) }
+    {
+        match Managed::user(alloc, bytes, owner, mint) {
+            Ok(managed) => Ok(on(managed)),
+            Err(back) => Err(back),
+        }
+    }
+
+    /// A new storage of a lent block's bytes, where they are. No copy, three allocations for the count. At want of memory the block is handed back.
     pub fn lent(alloc: Global, block: Lent, mint: &mut Mint) -> Result<Hold<'static, O>, Lent>
-        ensures hold { IfOk result (λ h. h ≡ record { bytes = block.bytes.items; share = fresh mint.old (lent block.number) }) }
-        ensures mint { MatchResult result (λ _. mint.new ≡ mint.old + 1) (λ _. mint.old ≤ mint.new) }
+        ensures hold { IfOk result (Makes mint.old mint.new (lent block.number) block.bytes.items) }
         ensures refused { IfErr result (λ b. b ≡ block) }
+        ensures refused_mint { OnErr result (mint.new ≡ mint.old) }
     {
         match Managed::lent(alloc, block, mint) {
-            Ok(managed) => Ok(Hold {
-                wrapped: None,
-                managed,
-            }),
+            Ok(managed) => Ok(on(managed)),
             Err(block) => Err(block),
+        }
+    }
+
+    /// A new storage of these bytes, where they are, which answers the tag when it ends. No copy, three allocations for the count. At want of memory the bytes are handed back.
+    pub fn tagged(
+        alloc: Global,
+        bytes: Vec<u8>,
+        tag: u32,
+        mint: &mut Mint,
+    ) -> Result<Hold<'static, O>, Vec<u8>>
+        ensures hold { IfOk result (Makes mint.old mint.new (tagged tag) bytes.items) }
+        ensures refused { IfErr result (λ b. b ≡ bytes) }
+        ensures refused_mint { OnErr result (mint.new ≡ mint.old) }
+    {
+        match Managed::tagged(alloc, bytes, tag, mint) {
+            Ok(managed) => Ok(on(managed)),
+            Err(bytes) => Err(bytes),
         }
     }
 }
 
-impl<'a, O: Drop> Hold<'a, O> {
+// The hold that is managed so.
+fn on<O: Told>(managed: Managed<O>) -> Hold<'static, O>
+    ensures { result ≡ managed }
+{
+    Hold {
+        wrapped: None,
+        managed,
+    }
+}
+
+impl<'a, O: Told> Hold<'a, O> {
     ghost use Rattle.std.specs.Borrow.{sem};
-    ghost use Rattle.storage.specs.HoldLends.{lends_block};
+    ghost use Rattle.storage.specs.Held.{with_share, SharesAs};
+    ghost use Rattle.storage.specs.HoldLends.{lends_bytes};
 
     /// A hold on bytes that stay where they are. O(1), and no memory.
     pub fn wrap(bytes: &'a [u8]) -> Hold<'a, O>
@@ -114,12 +158,12 @@ impl<'a, O: Drop> Hold<'a, O> {
         self.wrapped.is_none() && self.managed.whole()
     }
 
-    /// Looks whether others hold the storage. Wrapped bytes always stand as `Shared { found: 0 }`.
+    /// Looks whether others hold the storage, by one load of its count. Wrapped bytes always stand as `Shared { found: 0 }`.
     pub fn standing(&mut self) -> Standing
-        ensures same { self.new ≡ self.old }
-        ensures found { IsStanding self.old.share.number self.old.share.weight result }
+        ensures bytes { self.new ≡ with_share self.old self.new.share }
+        ensures found { Stands self.old.share self.new.share result }
         ensures whole { IsWhole self.old.share → result ≡ Standing.Sole }
-        ensures share { IsShare self.old.share }
+        ensures alone { IsAlone self.old.share → result ≡ Standing.Sole }
     {
         if self.wrapped.is_some() {
             return Standing::Shared { found: 0 };
@@ -137,29 +181,58 @@ impl<'a, O: Drop> Hold<'a, O> {
         }
     }
 
-    /// Lends the block for writing, where a look finds that nobody else holds it. No memory.
-    pub fn write(&mut self) -> Result<&mut Block, Barred>
-        ensures* lends { sem 𝓛 (lends_block O.row self.entry result) }
-        ensures value { IfOk result (λ bytes. bytes.now ≡ self.old.bytes) }
-        ensures managed { IsOk result → IsManaged self.old.share }
-        ensures barred { IfErr result (Bars self.old.share.number self.old.share.weight) }
+    /// Claims the storage for writing, where a look finds that nobody else holds it: `bytes_mut` may then be called until the next share. No memory.
+    pub fn write(&mut self) -> Result<(), Barred>
+        ensures bytes { self.new ≡ with_share self.old self.new.share }
+        ensures claim { Claims self.old.share self.new.share result }
         ensures whole { IsWhole self.old.share → IsOk result }
-    {
-        self.look()?;
-        Ok(self.managed.block_mut())
-    }
-
-    // Looks whether the bytes may be written.
-    fn look(&mut self) -> Result<(), Barred>
-        ensures same { self.new ≡ self.old }
-        ensures managed { IsOk result → IsManaged self.old.share }
-        ensures barred { IfErr result (Bars self.old.share.number self.old.share.weight) }
-        ensures whole { IsWhole self.old.share → IsOk result }
+        ensures alone { IsAlone self.old.share → IsOk result }
     {
         if self.wrapped.is_some() {
             return Err(Barred::Unmanaged);
         }
-        self.managed.look()
+        self.managed.write()
+    }
+
+    /// The bytes of the block, for writing. Takes no look.
+    pub fn bytes_mut(&mut self) -> &mut [u8]
+        requires { IsAlone self.old.share }
+        ensures* lends { sem 𝓛 (lends_bytes O.row self.entry result) }
+        ensures value { result.now ≡ self.old.bytes }
+    {
+        self.managed.bytes_mut()
+    }
+
+    /// A second hold with the same bytes. On a storage it has a part of the weight: `max(1, min(w / 1024, 2^40))` of the weight w, and `Ok(None)` comes exactly at weight 1. Wrapped bytes always share, without memory.
+    pub fn share(&mut self) -> Result<Option<Hold<'a, O>>, AllocError>
+        ensures shares { IfOk result (SharesAs self.old self.new) }
+        ensures wrapped { self.old.share.number ≡ None → IsOk result }
+        ensures refused { OnErr result (self.new ≡ self.old) }
+    {
+        if self.wrapped.is_some() {
+            return Ok(Some(Hold {
+                wrapped: self.wrapped,
+                managed: Managed::none(),
+            }));
+        }
+        match self.managed.share() {
+            Ok(Some(managed)) => Ok(Some(Hold {
+                wrapped: None,
+                managed,
+            })),
+            Ok(None) => Ok(None),
+            Err(e) => Err(e),
+        }
+    }
+
+    /// Takes a receipt of the storage in. Its weight counts as this hold's from then on. No memory.
+    pub fn absorb(&mut self, receipt: Receipt<O>)
+        requires { IsOfStorage self.old.share receipt }
+        ensures lasts { receipt.lasts ≡ 0 }
+        ensures hold { self.new ≡ with_share self.old (absorbed_in receipt.weight self.old.share) }
+        ensures totals { KeepsTotals (held self.old.share ∷ counted receipt ∷ []) (held self.new.share ∷ []) }
+    {
+        self.managed.absorb(receipt);
     }
 }
 
@@ -175,5 +248,17 @@ impl<'a, O: Release> Hold<'a, O> {
             Some(_) => Back::Nothing,
             None => managed.give_back(),
         }
+    }
+}
+
+impl<'a, O: Told> fmt::Debug for Hold<'a, O> {
+    fn fmt<W: fmt::Write>(&self, f: &mut fmt::Formatter<W>) -> fmt::Result {
+        write!(
+            f,
+            "Hold {{ number: {:?}, weight: {}, bytes: {} }}",
+            self.number(),
+            self.weight(),
+            self.bytes().len()
+        )
     }
 }

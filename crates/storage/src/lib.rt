@@ -1,20 +1,20 @@
-//! Storages: blocks with a way of release, and the holds on them.
+//! Storages: blocks with a way of release, counted by weight, and the holds on them.
 #![tactic(auto)]
 
 mod back;
-mod block;
 mod hold;
+mod make;
 mod managed;
 mod release;
 mod returns;
-mod slot;
+mod stored;
 #[cfg(test)]
 mod tests;
+mod untold;
 
 pub use back::{Back, Receipt};
-pub use block::Block;
 pub use hold::{Barred, Hold};
 pub use managed::Managed;
-pub use release::{NoOwner, Owner, Release};
+pub use release::{NoOwner, Owner, Release, Told};
 pub use returns::Returns;
-pub use slot::Stored;
+pub use stored::{Ended, Stored};

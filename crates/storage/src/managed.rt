@@ -1,109 +1,47 @@
 //! Holds on storages that are managed.
-ghost use Rattle.std.specs.Prelude.{◌≡◌, ◌+◌, ◌≤◌, ◌↔◌, List, [], ◌∷◌, Option, Some, None, IsTrue, IsOk, IfOk, IfErr, OnErr, MatchResult, length, replicate, slice_range};
+ghost use Rattle.std.specs.Prelude.{◌≡◌, ◌+◌, ◌≤◌, ◌↔◌, List, [], ◌∷◌, Option, Some, None, IsTrue, IsOk, IfOk, OnErr, length, slice_range};
 ghost use Rattle.std.specs.List.{copy_within};
-ghost use Rattle.buffer_model.specs.Share.{Held, IsShare, IsWhole, IsManaged, wrapped, fresh, own, lent};
-ghost use Rattle.buffer_model.specs.Stake.{held, KeepsTotals};
-ghost use Rattle.storage.specs.Back.{IsStanding, Bars, GivesBack, stakes_of};
+ghost use Rattle.buffer_model.specs.Share.{IsShare, IsWhole, IsAlone, IsOfStorage, wrapped, absorbed_in};
+ghost use Rattle.buffer_model.specs.Stake.{held, counted, KeepsTotals};
+ghost use Rattle.storage.specs.Looks.{Stands, Claims};
+ghost use Rattle.storage.specs.Back.{GivesBack, stakes_of};
+ghost use Rattle.std.specs.Borrow.{sem};
+ghost use Rattle.storage.specs.UnitLends.{lends_unit_block};
 
 use crate::back::{Back, Receipt};
-use crate::block::Block;
 use crate::hold::Barred;
-use crate::release::{NoOwner, Release};
-use crate::slot::{Slot, Stored, Way};
-use relay_ports::Lent;
-use share_count::{FULL, Mint, Standing};
-use std::alloc::{AllocError, Global};
+use crate::release::{NoOwner, Release, Told};
+use crate::stored::Stored;
+use raw_block::Block;
+use share_count::{Given, Standing, Unit};
+use std::alloc::AllocError;
 use std::marker::Model;
 
 /// A hold on a storage, or on none. Contracts see the bytes of the block and what the hold has of the storage.
 #[derive(Drop)]
-pub struct Managed<O: Drop = NoOwner> {
-    slot: Slot<O>,
+pub struct Managed<O: Told = NoOwner> {
+    pub(crate) unit: Option<Unit<Stored<O>>>,
 }
 
-impl<O: Drop> Model for Managed<O> {
+impl<O: Told> Model for Managed<O> {
     ghost use Rattle.buffer_model.specs.Share.{Held};
 
     ghost Value = { Held O };
 
-    ghost use Rattle.storage.specs.Slot.{held_in};
+    ghost use Rattle.storage.specs.Stored.{held_in};
 
-    ghost view = { λ m. held_in m.slot };
+    ghost view = { λ m. held_in m.unit };
 }
 
-impl<O: Drop> Managed<O> {
-    /// A new storage of `cap` zero bytes. One allocation, O(cap).
-    pub fn own(alloc: Global, cap: usize, mint: &mut Mint) -> Result<Managed<O>, AllocError>
-        ensures hold { IfOk result (λ h. h ≡ record { bytes = replicate cap 0; share = fresh mint.old own }) }
-        ensures mint { MatchResult result (λ _. mint.new ≡ mint.old + 1) (λ _. mint.old ≤ mint.new) }
-    {
-        if !mint.ready() {
-            return Err(AllocError);
-        }
-        let block = Block::new(alloc, cap)?;
-        let number = mint.next();
-        let stored = Stored {
-            block,
-            way: Way::Own,
-        };
-        Ok(Managed {
-            slot: Slot::Full(number, stored),
-        })
-    }
-
-    /// A new storage of a copy of some bytes. One allocation and one copy.
-    pub fn copy(alloc: Global, bytes: &[u8], mint: &mut Mint) -> Result<Managed<O>, AllocError>
-        ensures hold { IfOk result (λ h. h ≡ record { bytes = bytes.now; share = fresh mint.old own }) }
-        ensures mint { MatchResult result (λ _. mint.new ≡ mint.old + 1) (λ _. mint.old ≤ mint.new) }
-    {
-        if !mint.ready() {
-            return Err(AllocError);
-        }
-        let block = Block::from_vec(Vec::from_slice(alloc, bytes)?);
-        let stored = Stored {
-            block,
-            way: Way::Own,
-        };
-        Ok(Managed {
-            slot: Slot::Full(mint.next(), stored),
-        })
-    }
-
-    /// A new storage of a lent block's bytes, where they are. No copy. At want of memory the block is handed back.
-    pub fn lent(alloc: Global, block: Lent, mint: &mut Mint) -> Result<Managed<O>, Lent>
-        ensures hold { IfOk result (λ h. h ≡ record { bytes = block.bytes.items; share = fresh mint.old (lent block.number) }) }
-        ensures mint { MatchResult result (λ _. mint.new ≡ mint.old + 1) (λ _. mint.old ≤ mint.new) }
-        ensures refused { IfErr result (λ b. b ≡ block) }
-    {
-        if !mint.ready() {
-            return Err(block);
-        }
-        let _ = alloc;
-        let number = mint.next();
-        let Lent {
-            number: lent,
-            bytes,
-        } = block;
-        let stored = Stored {
-            block: Block::from_vec(bytes),
-            way: Way::Lent(lent),
-        };
-        Ok(Managed {
-            slot: Slot::Full(number, stored),
-        })
-    }
-}
-
-impl<O: Drop> Managed<O> {
-    ghost use Rattle.std.specs.Borrow.{sem};
-    ghost use Rattle.storage.specs.Held.{with_bytes};
-    ghost use Rattle.storage.specs.ManagedLends.{lends_managed, lends_managed_span};
+impl<O: Told> Managed<O> {
+    ghost use Rattle.storage.specs.Held.{with_bytes, with_share, SharesAs};
+    ghost use Rattle.storage.specs.ManagedLends.{lends_block, lends_bytes, lends_span};
 
     /// A hold on no storage, with no bytes. O(1), and no memory.
     pub fn none() -> Managed<O>
         ensures { result ≡ record { bytes = []; share = wrapped } }
     {
-        Managed { slot: Slot::Empty }
+        Managed { unit: None }
     }
 
     /// The number of the storage. It has none where there is no storage.
@@ -112,9 +50,12 @@ impl<O: Drop> Managed<O> {
         ensures none { self.now.share.number ≡ None → self.now ≡ record { bytes = []; share = wrapped } }
         ensures share { IsShare self.now.share }
     {
-        match &self.slot {
-            Slot::Empty => None,
-            Slot::Full(number, _) => Some(*number),
+        match &self.unit {
+            None => None,
+            Some(unit) => {
+                let _ = unit.weight();
+                Some(unit.number())
+            }
         }
     }
 
@@ -123,9 +64,9 @@ impl<O: Drop> Managed<O> {
         ensures weight { result ≡ self.now.share.weight }
         ensures share { IsShare self.now.share }
     {
-        match &self.slot {
-            Slot::Empty => 0,
-            Slot::Full(..) => FULL,
+        match &self.unit {
+            None => 0,
+            Some(unit) => unit.weight(),
         }
     }
 
@@ -134,33 +75,41 @@ impl<O: Drop> Managed<O> {
         ensures whole { IsTrue result ↔ IsWhole self.now.share }
         ensures share { IsShare self.now.share }
     {
-        matches!(&self.slot, Slot::Full(..))
-    }
-
-    /// Looks whether others hold the storage. Without a storage it stands as `Shared { found: 0 }`.
-    pub fn standing(&mut self) -> Standing
-        ensures same { self.new ≡ self.old }
-        ensures found { IsStanding self.old.share.number self.old.share.weight result }
-        ensures whole { IsWhole self.old.share → result ≡ Standing.Sole }
-        ensures share { IsShare self.old.share }
-    {
-        match &self.slot {
-            Slot::Empty => Standing::Shared { found: 0 },
-            Slot::Full(..) => Standing::Sole,
+        match &self.unit {
+            None => false,
+            Some(unit) => {
+                let _ = unit.weight();
+                unit.whole()
+            }
         }
     }
 
-    /// The same as a refusal, where the storage may not be written now.
-    pub fn look(&mut self) -> Result<(), Barred>
-        ensures same { self.new ≡ self.old }
-        ensures managed { IsOk result → IsManaged self.old.share }
-        ensures barred { IfErr result (Bars self.old.share.number self.old.share.weight) }
-        ensures whole { IsWhole self.old.share → IsOk result }
+    /// Looks whether others hold the storage, by one load of its count. Without a storage it stands as `Shared { found: 0 }`.
+    pub fn standing(&mut self) -> Standing
+        ensures bytes { self.new ≡ with_share self.old self.new.share }
+        ensures found { Stands self.old.share self.new.share result }
+        ensures whole { IsWhole self.old.share → result ≡ Standing.Sole }
+        ensures alone { IsAlone self.old.share → result ≡ Standing.Sole }
     {
-        match self.standing() {
-            Standing::Sole => Ok(()),
-            Standing::Shared { found: 0 } => Err(Barred::Unmanaged),
-            Standing::Shared { found } => Err(Barred::SharedNow { found }),
+        match &mut self.unit {
+            None => Standing::Shared { found: 0 },
+            Some(unit) => unit.look(),
+        }
+    }
+
+    /// Claims the storage for writing, where a look finds that nobody else holds it: until the next share, its bytes may then be written. No memory.
+    pub fn write(&mut self) -> Result<(), Barred>
+        ensures bytes { self.new ≡ with_share self.old self.new.share }
+        ensures claim { Claims self.old.share self.new.share result }
+        ensures whole { IsWhole self.old.share → IsOk result }
+        ensures alone { IsAlone self.old.share → IsOk result }
+    {
+        match &mut self.unit {
+            None => Err(Barred::Unmanaged),
+            Some(unit) => match unit.claim() {
+                Ok(()) => Ok(()),
+                Err(found) => Err(Barred::SharedNow { found }),
+            },
         }
     }
 
@@ -168,43 +117,84 @@ impl<O: Drop> Managed<O> {
     pub fn bytes(&self) -> &[u8]
         ensures { result.now ≡ self.now.bytes }
     {
-        match &self.slot {
-            Slot::Empty => &[],
-            Slot::Full(_, stored) => stored.block.bytes(),
+        match &self.unit {
+            None => &[],
+            Some(unit) => unit.get().block.bytes(),
         }
     }
 
-    /// Lends the block for writing, to a caller who knows that nobody else holds the storage.
-    pub fn block_mut(&mut self) -> &mut Block
-        requires { IsManaged self.old.share }
-        ensures* lends { sem 𝓛 (lends_managed O.row self.entry result) }
+    fn block_mut(&mut self) -> &mut Block
+        requires { IsAlone self.old.share }
+        ensures* lends { sem 𝓛 (lends_block O.row self.entry result) }
         ensures value { result.now ≡ self.old.bytes }
     {
-        self.slot.block()
+        block_of(self.unit.as_mut().unwrap())
     }
 
-    /// Lends the bytes from `start` up to `end` for writing, to a caller who knows that nobody else holds the storage.
+    /// The bytes of the block, for writing. Takes no look.
+    pub fn bytes_mut(&mut self) -> &mut [u8]
+        requires { IsAlone self.old.share }
+        ensures* lends { sem 𝓛 (lends_bytes O.row self.entry result) }
+        ensures value { result.now ≡ self.old.bytes }
+    {
+        self.block_mut().bytes_mut()
+    }
+
+    /// The bytes from `start` up to `end`, for writing. Takes no look.
     pub fn span_mut(&mut self, start: usize, end: usize) -> &mut [u8]
-        requires managed { IsManaged self.old.share }
+        requires alone { IsAlone self.old.share }
         requires order { start ≤ end }
         requires within { end ≤ length self.old.bytes }
-        ensures* lends { sem 𝓛 (lends_managed_span O.row self.entry start result) }
+        ensures* lends { sem 𝓛 (lends_span O.row self.entry start result) }
         ensures value { result.now ≡ slice_range self.old.bytes start end }
     {
-        self.slot.span_mut(start, end)
+        self.block_mut().span_mut(start, end)
     }
 
-    /// Copies `n` bytes from `from` on to `to` on, for the same caller. The two may overlap. O(n), and no memory.
+    /// Copies `n` bytes from `from` on to `to` on. The two may overlap. Takes no look. O(n), and no memory.
     pub fn copy_within(&mut self, from: usize, to: usize, n: usize)
-        requires managed { IsManaged self.old.share }
+        requires alone { IsAlone self.old.share }
         requires source { from + n ≤ length self.old.bytes }
         requires target { to + n ≤ length self.old.bytes }
         ensures { self.new ≡ with_bytes self.old (copy_within self.old.bytes from (from + n) to) }
     {
-        if let Slot::Full(_, stored) = &mut self.slot {
-            stored.block.copy_within(from, to, n);
+        self.block_mut().copy_within(from, to, n);
+    }
+
+    /// A second hold on the storage, with a part of the weight: `max(1, min(w / 1024, 2^40))` of the weight w. `Ok(None)` exactly at weight 1. Without a storage the second has none either, and no memory is taken.
+    pub fn share(&mut self) -> Result<Option<Managed<O>>, AllocError>
+        ensures shares { IfOk result (SharesAs self.old self.new) }
+        ensures none { self.old.share.number ≡ None → IsOk result }
+        ensures refused { OnErr result (self.new ≡ self.old) }
+    {
+        match &mut self.unit {
+            None => Ok(Some(Managed::none())),
+            Some(unit) => match unit.share() {
+                Ok(Some(unit)) => Ok(Some(Managed { unit: Some(unit) })),
+                Ok(None) => Ok(None),
+                Err(e) => Err(e),
+            },
         }
     }
+
+    /// Takes a receipt of the storage in. Its weight counts as this hold's from then on. No memory.
+    pub fn absorb(&mut self, receipt: Receipt<O>)
+        requires { IsOfStorage self.old.share receipt }
+        ensures lasts { receipt.lasts ≡ 0 }
+        ensures hold { self.new ≡ with_share self.old (absorbed_in receipt.weight self.old.share) }
+        ensures totals { KeepsTotals (held self.old.share ∷ counted receipt ∷ []) (held self.new.share ∷ []) }
+    {
+        self.unit.as_mut().unwrap().absorb(receipt);
+    }
+}
+
+// The block of a unit that is alone, for writing.
+fn block_of<O: Told>(unit: &mut Unit<Stored<O>>) -> &mut Block
+    requires { IsTrue unit.old.alone }
+    ensures* lends { sem 𝓛 (lends_unit_block O.row unit.entry result) }
+    ensures value { result.now ≡ unit.old.payload.block }
+{
+    &mut unit.alone_mut().block
 }
 
 impl<O: Release> Managed<O> {
@@ -214,10 +204,13 @@ impl<O: Release> Managed<O> {
         ensures nothing { (result ≡ Back.Nothing) ↔ (self.share.number ≡ None) }
         ensures totals { KeepsTotals (held self.share ∷ []) (stakes_of result) }
     {
-        let Managed { slot } = self;
-        match slot {
-            Slot::Empty => Back::Nothing,
-            Slot::Full(number, stored) => stored.released(Receipt::whole(number)),
+        let Managed { unit } = self;
+        let Some(unit) = unit else {
+            return Back::Nothing;
+        };
+        match unit.give_back() {
+            Given::Last(stored, receipt) => stored.end().with(receipt),
+            Given::Kept(receipt) => Back::Kept(receipt),
         }
     }
 }

@@ -1,7 +1,10 @@
 //! Who is told when a storage ends.
 ghost use Rattle.std.specs.Prelude.{◌≡◌, ℕ, ◌+◌, ◌<◌, ◌^◌, List, Option, IfSome};
+ghost use Rattle.storage.specs.Ends.{Ends};
 
-/// Told when the last hold on its storage is given back.
+use crate::stored::{Ended, Stored};
+
+/// Told when the last hold on its storage is given back or dropped.
 pub trait Release: Drop {
     /// How often it was told.
     ghost runs: { Self → ℕ };
@@ -13,6 +16,22 @@ pub trait Release: Drop {
     fn released(&mut self, bytes: Vec<u8>)
         ensures runs { runs self.old < 2 ^ 63 → runs self.new ≡ runs self.old + 1 }
         ensures last { IfSome (last self.new) (λ xs. xs ≡ bytes.items) };
+}
+
+/// Who may own a storage: everything that is `Release`. It has no meanings of its own, so that holds are bounded by it, also of boxed owners.
+pub trait Told: Drop {
+    /// Ends a storage by its way of release, as a hold that is given back does.
+    fn end(stored: Stored<Self>) -> Ended<Self>;
+}
+
+impl<O: Release> Told for O {
+    ghost use Rattle.storage.specs.Stored.{way_of};
+
+    fn end(stored: Stored<O>) -> Ended<O>
+        ensures { Ends O.runs O.last (way_of stored.way) stored.block result }
+    {
+        stored.end()
+    }
 }
 
 /// An owner of any kind.

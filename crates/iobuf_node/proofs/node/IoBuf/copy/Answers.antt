@@ -1,6 +1,6 @@
-use Rattle.std.proofs.Common.{◌∙◌, refl}
-use Rattle.buffer_model.proofs.Windows.{cut-rooms}
+use Rattle.std.proofs.Common.{refl}
+use Rattle.iobuf_node.proofs.Made.{rooms_on}
 use Rattle.iobuf_node.proofs.node.IoBuf.copy.Goals as goal
 
 pub returns-in-Ok-clause-node : goal.returns-in-Ok-clause-node
-returns-in-Ok-clause-node g c = c.on.ensures ∙ cut-rooms c.args.head c.args.tail c.args.bytes.now c.in-Ok.hold _ _ c.in-Ok.ensures.hold refl
+returns-in-Ok-clause-node g c = rooms_on _ _ _ c.args.head c.args.tail c.args.bytes.now c.in-Ok.hold _ _ c.in-Ok.ensures.hold refl c.on.ensures
