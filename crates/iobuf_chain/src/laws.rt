@@ -1,8 +1,7 @@
-//! Laws over chains, each a function that does nothing and ensures it.
+//! Laws of chains: each is the contract of a function that does nothing.
+ghost use Rattle.iobuf_chain.specs.Copies.{SharesInTurn};
 
-ghost use Rattle.iobuf_chain.specs.Segments.{JoinsBytes};
-
-/// The bytes of joined chains are the bytes of the one, then those of the other.
-pub fn joins_bytes()
-    ensures { JoinsBytes }
+/// A node with enough weight can be shared up to 1,024 times in turn: where so many more shares can be made without a copy, one fewer can be after the next.
+pub fn shares_in_turn()
+    ensures { SharesInTurn }
 {}

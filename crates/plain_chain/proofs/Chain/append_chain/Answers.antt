@@ -1,6 +1,6 @@
 use Rattle.std.proofs.Common.{length, arith, length-append}
-use Rattle.iobuf_chain.proofs.Joined.{length_of_both}
-use Rattle.iobuf_chain.proofs.Chain.append_chain.Goals as goal
+use Rattle.plain_chain.proofs.Joined.{length_of_both}
+use Rattle.plain_chain.proofs.Chain.append_chain.Goals as goal
 
 pub invariant_of-self : goal.invariant_of-self
 invariant_of-self c = (

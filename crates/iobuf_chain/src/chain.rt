@@ -1,0 +1,110 @@
+//! Chains, their sizes and their nodes.
+ghost use Rattle.std.specs.Prelude.{◌≡◌, ◌+◌, ◌-◌, ◌≤◌, ◌<◌, ◌^◌, ◌↔◌, List, [], ◌∷◌, ◌++◌, Some, Ok, IsOk, length, slice_get, slice_set};
+ghost use Rattle.buffer_model.specs.Segment.{Segment, bytes_of};
+ghost use Rattle.buffer_model.specs.Stake.{KeepsTotals};
+ghost use Rattle.iobuf_chain.specs.Accounts.{held_by};
+ghost use Rattle.iobuf_chain.specs.Lists.{rotated};
+
+use crate::nodes::Nodes;
+use iobuf_node::IoBuf;
+use std::alloc::Global;
+use std::collections::VecDeque;
+use std::fmt;
+use std::marker::Model;
+use storage::{Back, NoOwner, Told};
+
+/// One or more nodes. Contracts see the list of their windows. The first node lies in the chain itself, so a chain of one node owns no memory beside its storage; and the room for what its other nodes hand back is taken as they join.
+#[derive(Drop)]
+pub struct Chain<'a, O: Told = NoOwner> {
+    pub(crate) nodes: Nodes<IoBuf<'a, O>>,
+    // Empty, with room for what all nodes but the first hand back.
+    pub(crate) room: VecDeque<Back<O>>,
+    pub(crate) sum: usize,
+}
+
+impl<'a, O: Told> Model for Chain<'a, O> {
+    ghost use Rattle.std.specs.Prelude.{◌≡◌, ◌≤◌, ◌<◌, ◌+◌, List, [], length};
+    ghost use Rattle.std.specs.VecDeque.{deque_capacity};
+    ghost use Rattle.buffer_model.specs.Segment.{Segment, bytes_of};
+
+    ghost Value = { List (Segment O) };
+
+    ghost view = { λ c. c.nodes };
+
+    ghost invariant = { λ c. (0 < length c.nodes) × (c.sum ≡ length (bytes_of c.nodes)) × (c.room.items ≡ [])
+        × (length c.nodes ≤ deque_capacity c.room + 1) };
+}
+
+/// A chain that borrows nothing.
+pub type Frame = Chain<'static>;
+
+impl<'a, O: Told> Chain<'a, O> {
+    /// A chain of one node. O(1), and it takes no memory: so it always succeeds.
+    pub fn of(alloc: Global, node: IoBuf<'a, O>) -> Result<Chain<'a, O>, IoBuf<'a, O>>
+        ensures { result ≡ Ok (node.entry ∷ []) }
+    {
+        let sum = node.length();
+        Ok(Chain {
+            nodes: Nodes::of(alloc, node),
+            room: VecDeque::new(alloc),
+            sum,
+        })
+    }
+
+    /// The number of nodes, at least one. O(1).
+    pub fn elements(&self) -> usize
+        ensures count { result ≡ length self.now }
+        ensures some { 0 < result }
+    {
+        self.nodes.len()
+    }
+
+    /// The number of bytes of data. O(1).
+    pub fn length(&self) -> usize
+        ensures { result ≡ length (bytes_of self.now) }
+    {
+        self.sum
+    }
+
+    /// Node `i`. O(1).
+    pub fn node(&self, i: usize) -> &IoBuf<'a, O>
+        requires { i < length self.now }
+        ensures { slice_get self.now i ≡ Some result.now }
+    {
+        self.nodes.get(i)
+    }
+
+    /// Puts a node in the place of node `i`, which is handed back. O(1), and no memory. To change a node, swap an empty wrapped one in, change the one that is handed back, and swap it back.
+    pub fn swap_node(&mut self, i: usize, node: IoBuf<'a, O>) -> IoBuf<'a, O>
+        requires there { i < length self.old }
+        requires sum { length (bytes_of (slice_set self.old i node)) < 2 ^ 64 }
+        ensures new { self.new ≡ slice_set self.old i node.entry }
+        ensures old { slice_get self.old i ≡ Some result }
+        ensures totals { KeepsTotals (held_by (self.old ++ node.entry ∷ [])) (held_by (self.new ++ result ∷ [])) }
+    {
+        let more = node.length();
+        let old = self.nodes.swap(i, node);
+        self.sum = self.sum - old.length() + more;
+        old
+    }
+
+    /// Node `i` becomes the first, and those that stood before it the last. O(i), and no memory.
+    pub fn rotate(&mut self, i: usize)
+        requires { i < length self.old }
+        ensures nodes { self.new ≡ rotated i self.old }
+        ensures totals { KeepsTotals (held_by self.old) (held_by self.new) }
+    {
+        self.nodes.rotate(i);
+    }
+}
+
+impl<'a, O: Told> fmt::Debug for Chain<'a, O> {
+    fn fmt<W: fmt::Write>(&self, f: &mut fmt::Formatter<W>) -> fmt::Result {
+        write!(
+            f,
+            "Chain {{ elements: {}, length: {} }}",
+            self.elements(),
+            self.length()
+        )
+    }
+}

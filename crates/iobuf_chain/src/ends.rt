@@ -1,0 +1,59 @@
+//! Chains that are given back, and their storages.
+ghost use Rattle.std.specs.Prelude.{◌≡◌, ◌+◌, ◌≤◌, ◌<◌, ◌↔◌, List, [], ◌∷◌, ◌++◌, Some, false, length, MatchResult, IsTrue};
+ghost use Rattle.std.specs.List.{AllZip};
+ghost use Rattle.buffer_model.specs.Share.{IsWhole, IsOfStorage};
+ghost use Rattle.buffer_model.specs.Segment.{Segment, hold_of};
+ghost use Rattle.buffer_model.specs.Stake.{KeepsTotals};
+ghost use Rattle.storage.specs.Back.{GivesBack, stakes_in};
+ghost use Rattle.std.specs.VecDeque.{deque_capacity};
+ghost use Rattle.iobuf_chain.specs.Accounts.{held_by};
+ghost use Rattle.iobuf_chain.specs.Lists.{Each};
+
+use crate::chain::Chain;
+use iobuf_node::IoBuf;
+use std::collections::VecDeque;
+use storage::{Back, Release, Returns, Told};
+
+impl<'a, O: Told> Chain<'a, O> {
+    /// Whether some node isn't whole, so that others may hold its storage. Takes no look at a count. O(nodes), and no memory.
+    pub fn is_shared(&self) -> bool
+        ensures { result ≡ false ↔ Each (λ s. IsWhole s.share) self.now }
+    {
+        'nodes: for i in 0..self.nodes.len() {
+            if !self.nodes.get(i).whole() {
+                return true;
+            }
+        }
+        false
+    }
+}
+
+impl<'a, O: Release> Chain<'a, O> {
+    /// Gives back the storages of all nodes, in order. O(nodes), and no memory.
+    pub fn give_back(self) -> Returns<O>
+        ensures backs { AllZip (λ s b. GivesBack O.runs O.last (hold_of s) b) self.entry result }
+        ensures totals { KeepsTotals (held_by self.entry) (stakes_in result) }
+    {
+        let Chain {
+            nodes,
+            mut room,
+            ..
+        } = self;
+        let (first, mut rest) = nodes.into_parts();
+        let back = first.give_back();
+        give_rest_back(&mut rest, &mut room);
+        Returns::from_parts(back, room)
+    }
+}
+
+// Gives nodes back, in order, into a list that has room for what they hand back.
+fn give_rest_back<'a, O: Release>(nodes: &mut VecDeque<IoBuf<'a, O>>, backs: &mut VecDeque<Back<O>>)
+    requires room { length backs.old.items + length nodes.old.items ≤ deque_capacity backs.old }
+    requires none { backs.old.items ≡ [] }
+    ensures backs { AllZip (λ s b. GivesBack O.runs O.last (hold_of s) b) nodes.old.items backs.new.items }
+    ensures totals { KeepsTotals (held_by nodes.old.items) (stakes_in backs.new.items) }
+{
+    'nodes: while let Some(node) = nodes.pop_front() {
+        backs.push_back_reserved(node.give_back());
+    }
+}

@@ -1,0 +1,217 @@
+//! Lists of one or more items, of which the first lies in the list itself: a list of one owns no memory.
+ghost use Rattle.std.specs.Prelude.{◌≡◌, ◌+◌, ◌<◌, ◌≤◌, List, [], ◌∷◌, ◌++◌, Some, length, take, drop, slice_get, slice_set, IfOk, OnOk, OnErr, MatchResult};
+ghost use Rattle.std.specs.VecDeque.{deque_len, deque_capacity};
+ghost use Rattle.iobuf_chain.specs.Lists.{between, without, rotated, inserted_after};
+
+use std::alloc::{AllocError, Global};
+use std::collections::VecDeque;
+use std::marker::Model;
+use std::mem;
+
+/// One or more items. Contracts see the list of them.
+#[derive(Drop)]
+pub(crate) struct Nodes<T> {
+    first: T,
+    rest: VecDeque<T>,
+}
+
+impl<T> Model for Nodes<T> {
+    ghost use Rattle.std.specs.Prelude.{List, ◌∷◌};
+
+    ghost Value = { List T };
+
+    ghost view = { λ n. n.first ∷ n.rest.items };
+}
+
+impl<T: Drop> Nodes<T> {
+    // One item.
+    pub(crate) fn of(alloc: Global, item: T) -> Nodes<T>
+        ensures { result ≡ item ∷ [] }
+    {
+        Nodes {
+            first: item,
+            rest: VecDeque::new(alloc),
+        }
+    }
+
+    // The allocator that the list was made with.
+    pub(crate) fn allocator(&self) -> Global {
+        *self.rest.allocator()
+    }
+
+    // The first item, and the others.
+    pub(crate) fn into_parts(self) -> (T, VecDeque<T>)
+        ensures { result.0 ∷ result.1.items ≡ self }
+    {
+        (self.first, self.rest)
+    }
+
+    // A list of these.
+    pub(crate) fn from_parts(first: T, rest: VecDeque<T>) -> Nodes<T>
+        ensures { result ≡ first ∷ rest.items }
+    {
+        Nodes { first, rest }
+    }
+
+    // How many items there are.
+    pub(crate) fn len(&self) -> usize
+        ensures count { result ≡ length self.now }
+        ensures some { 0 < result }
+    {
+        self.rest.len() + 1
+    }
+
+    // Item i.
+    pub(crate) fn get(&self, i: usize) -> &T
+        requires { i < length self.now }
+        ensures { slice_get self.now i ≡ Some result.now }
+    {
+        if i == 0 {
+            return &self.first;
+        }
+        &self.rest[i - 1]
+    }
+
+    // Puts an item in the place of another, which is handed back.
+    pub(crate) fn swap(&mut self, i: usize, item: T) -> T
+        requires { i < length self.old }
+        ensures new { self.new ≡ slice_set self.old i item }
+        ensures old { slice_get self.old i ≡ Some result }
+    {
+        if i == 0 {
+            return mem::replace(&mut self.first, item);
+        }
+        mem::replace(&mut self.rest[i - 1], item)
+    }
+
+    // The first item becomes the last. O(1).
+    fn turn(&mut self)
+        ensures { self.new ≡ rotated 1 self.old }
+    {
+        if let Some(next) = self.rest.pop_front() {
+            let front = mem::replace(&mut self.first, next);
+            self.rest.push_back_reserved(front);
+        }
+    }
+
+    // Item i becomes the first. O(i).
+    #[tactic(auto, using(crate::proofs::Lists::rotated_more))]
+    pub(crate) fn rotate(&mut self, i: usize)
+        requires { i < length self.old }
+        ensures { self.new ≡ rotated i self.old }
+    {
+        'turns: for _ in 0..i {
+            self.turn();
+        }
+    }
+
+    // Others come last. At want of memory they are handed back. O(others), amortised.
+    pub(crate) fn append(&mut self, others: Nodes<T>) -> Result<(), Nodes<T>>
+        ensures { MatchResult result (λ _. self.new ≡ self.old ++ others) (λ o. (o ≡ others) × (self.new ≡ self.old)) }
+    {
+        if self.rest.reserve(others.len()).is_err() {
+            return Err(others);
+        }
+        extend_reserved(&mut self.rest, others);
+        Ok(())
+    }
+
+    // Others stand behind item i. At want of memory they are handed back. O(others, and the fewer of those before and behind).
+    pub(crate) fn insert_after(&mut self, i: usize, others: Nodes<T>) -> Result<(), Nodes<T>>
+        requires { i < length self.old }
+        ensures { MatchResult result (λ _. self.new ≡ inserted_after i others self.old) (λ o. (o ≡ others)
+            × (self.new ≡ self.old)) }
+    {
+        if self.rest.reserve(others.len()).is_err() {
+            return Err(others);
+        }
+        let behind = self.rest.len() - i;
+        self.rest.rotate_left(i);
+        extend_reserved(&mut self.rest, others);
+        self.rest.rotate_left(behind);
+        Ok(())
+    }
+
+    // The first k items leave, with another behind them. At want of memory that one is handed back. O(k).
+    pub(crate) fn take_front_with(&mut self, k: usize, last: T) -> Result<Nodes<T>, T>
+        requires { k < length self.old }
+        ensures { MatchResult result (λ n. (n ≡ take k self.old ++ last ∷ [])
+            × (self.new ≡ drop k self.old)) (λ x. (x ≡ last) × (self.new ≡ self.old)) }
+    {
+        let alloc = self.allocator();
+        let Ok(mut taken) = VecDeque::with_capacity(alloc, k) else {
+            return Err(last);
+        };
+        if k == 0 {
+            return Ok(Nodes::of(alloc, last));
+        }
+        move_front(&mut self.rest, &mut taken, k - 1);
+        taken.push_back_reserved(last);
+        Ok(self.leave(taken))
+    }
+
+    // The first item leaves, with others behind it.
+    fn leave(&mut self, others: VecDeque<T>) -> Nodes<T>
+        requires { 1 < length self.old }
+        ensures { (result ≡ take 1 self.old ++ others.items) × (self.new ≡ drop 1 self.old) }
+    {
+        let Some(next) = self.rest.pop_front() else {
+            unreachable!()
+        };
+        let first = mem::replace(&mut self.first, next);
+        Nodes {
+            first,
+            rest: others,
+        }
+    }
+
+    // The items from place i up to and without place j leave; one stays. O(those that leave, and the fewer of those before and behind).
+    pub(crate) fn take_between(&mut self, i: usize, j: usize) -> Result<Nodes<T>, AllocError>
+        requires some { i < j }
+        requires there { j ≤ length self.old }
+        requires stays { j < length self.old + i }
+        ensures taken { IfOk result (λ n. n ≡ between i j self.old) }
+        ensures left { OnOk result (self.new ≡ without i j self.old) }
+        ensures refused { OnErr result (self.new ≡ self.old) }
+    {
+        let more = j - i - 1;
+        let mut taken = VecDeque::with_capacity(self.allocator(), more)?;
+        if i == 0 {
+            move_front(&mut self.rest, &mut taken, more);
+            return Ok(self.leave(taken));
+        }
+        self.rest.rotate_left(i - 1);
+        let Some(first) = self.rest.pop_front() else {
+            unreachable!()
+        };
+        move_front(&mut self.rest, &mut taken, more);
+        self.rest.rotate_right(i - 1);
+        Ok(Nodes { first, rest: taken })
+    }
+}
+
+// A list's items come last in another that has room for them. O(items), and no memory.
+fn extend_reserved<T: Drop>(into: &mut VecDeque<T>, others: Nodes<T>)
+    requires { deque_len into.old + length others ≤ deque_capacity into.old }
+    ensures items { into.new.items ≡ into.old.items ++ others }
+    ensures len { deque_len into.new ≡ deque_len into.old + length others }
+{
+    let Nodes { first, mut rest } = others;
+    into.push_back_reserved(first);
+    let _ = into.append(&mut rest);
+}
+
+// The first k items of one list move to the end of another, which has room for them. O(k), and no memory.
+fn move_front<T: Drop>(from: &mut VecDeque<T>, into: &mut VecDeque<T>, k: usize)
+    requires some { k ≤ length from.old.items }
+    requires room { length into.old.items + k ≤ deque_capacity into.old }
+    ensures taken { into.new.items ≡ into.old.items ++ take k from.old.items }
+    ensures left { from.new.items ≡ drop k from.old.items }
+    ensures capacity { deque_capacity into.new ≡ deque_capacity into.old }
+{
+    'moves: for _ in 0..k {
+        if let Some(item) = from.pop_front() {
+            into.push_back_reserved(item);
+        }
+    }
+}

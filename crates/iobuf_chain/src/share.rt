@@ -1,0 +1,136 @@
+//! Chains that are shared.
+ghost use Rattle.std.specs.Prelude.{◌≡◌, ◌+◌, ◌≤◌, ◌<◌, List, [], ◌++◌, IfOk, IfSome, OnErr, OnOk, length, slice_get};
+ghost use Rattle.std.specs.List.{AllZip};
+ghost use Rattle.std.specs.VecDeque.{deque_capacity};
+ghost use Rattle.buffer_model.specs.Segment.{Segment};
+ghost use Rattle.buffer_model.specs.Stake.{KeepsTotalsBelow};
+ghost use Rattle.iobuf_chain.specs.Accounts.{held_by, answered};
+ghost use Rattle.iobuf_chain.specs.Copies.{CopiesNoData, IsShareable, WithData};
+ghost use Rattle.iobuf_chain.specs.Shares.{AreReturnable, ClonesAt, ClonesEach, ClonesFirst, IsReturnable, Regains, RejoinsAt, RejoinsEach};
+
+use crate::chain::Chain;
+use crate::nodes::Nodes;
+use crate::settle::rejoin;
+use iobuf_node::IoBuf;
+use share_count::Mint;
+use std::alloc::{AllocError, Global};
+use std::collections::VecDeque;
+use storage::Release;
+
+impl<'a, O: Release> Chain<'a, O> {
+    /// A second chain with a clone of each node, in order. A wrapped node and one of a weight over 1 share their bytes with their clones; a node of the weight 1 is copied. A chain of one node takes no memory but for that clone. At want of memory the shares that were made are given back and absorbed. O(nodes).
+    pub fn share_all(&mut self, alloc: Global, mint: &mut Mint) -> Result<Chain<'a, O>, AllocError>
+        ensures shares { IfOk result (λ c. ClonesEach mint.old mint.new self.old self.new c) }
+        ensures refused { OnErr result (AllZip Regains self.old self.new) }
+        ensures totals { KeepsTotalsBelow (length mint.old) (held_by self.old) (held_by (self.new ++ answered result)) }
+        ensures copies { WithData IsShareable self.old → IfOk result (CopiesNoData self.old) }
+    {
+        let sum = self.sum;
+        let others = self.nodes.len() - 1;
+        let Ok(room) = VecDeque::with_capacity(alloc, others) else {
+            return Err(AllocError);
+        };
+        let nodes = match share_nodes(&mut self.nodes, alloc, mint) {
+            Ok(nodes) => nodes,
+            Err(e) => return Err(e),
+        };
+        Ok(Chain { nodes, room, sum })
+    }
+}
+
+// A clone of each node. Of one node it takes no memory but for that clone.
+fn share_nodes<'a, O: Release>(
+    nodes: &mut Nodes<IoBuf<'a, O>>,
+    alloc: Global,
+    mint: &mut Mint,
+) -> Result<Nodes<IoBuf<'a, O>>, AllocError>
+    ensures shares { IfOk result (λ c. ClonesEach mint.old mint.new nodes.old nodes.new c) }
+    ensures refused { OnErr result (AllZip Regains nodes.old nodes.new) }
+{
+    let count = nodes.len();
+    if count == 1 {
+        return match share_node(nodes, 0, alloc, mint) {
+            Ok(clone) => Ok(Nodes::of(alloc, clone)),
+            Err(e) => Err(e),
+        };
+    }
+    let Ok(mut clones) = VecDeque::with_capacity(alloc, count) else {
+        return Err(AllocError);
+    };
+    match share_each(nodes, &mut clones, alloc, mint) {
+        Ok(()) => (),
+        Err(e) => {
+            rejoin_each(nodes, &mut clones);
+            return Err(e);
+        }
+    }
+    let Some(first) = clones.pop_front() else {
+        unreachable!()
+    };
+    Ok(Nodes::from_parts(first, clones))
+}
+
+// A clone of node i.
+fn share_node<'a, O: Release>(
+    nodes: &mut Nodes<IoBuf<'a, O>>,
+    i: usize,
+    alloc: Global,
+    mint: &mut Mint,
+) -> Result<IoBuf<'a, O>, AllocError>
+    requires { i < length nodes.old }
+    ensures shares { IfOk result (λ c. ClonesAt i mint.old mint.new nodes.old nodes.new c) }
+    ensures refused { OnErr result ((nodes.new ≡ nodes.old) × (mint.new ≡ mint.old)) }
+{
+    let mut node = nodes.swap(i, IoBuf::wrap(&[]));
+    let clone = node.clone_one(alloc, mint);
+    let _ = nodes.swap(i, node);
+    match clone {
+        Ok(clone) => Ok(clone),
+        Err(e) => Err(e),
+    }
+}
+
+// Clones of all nodes, in order, up to the first that is refused.
+fn share_each<'a, O: Release>(
+    nodes: &mut Nodes<IoBuf<'a, O>>,
+    clones: &mut VecDeque<IoBuf<'a, O>>,
+    alloc: Global,
+    mint: &mut Mint,
+) -> Result<(), AllocError>
+    requires none { clones.old.items ≡ [] }
+    requires room { length nodes.old ≤ deque_capacity clones.old }
+    ensures shares { OnOk result (ClonesEach mint.old mint.new nodes.old nodes.new clones.new.items) }
+    ensures refused { OnErr result (ClonesFirst mint.old mint.new nodes.old nodes.new clones.new.items) }
+{
+    'nodes: for i in 0..nodes.len() {
+        match share_node(nodes, i, alloc, mint) {
+            Ok(clone) => clones.push_back_reserved(clone),
+            Err(e) => return Err(e),
+        }
+    }
+    Ok(())
+}
+
+// Gives clones back, each to its node.
+fn rejoin_each<'a, O: Release>(nodes: &mut Nodes<IoBuf<'a, O>>, clones: &mut VecDeque<IoBuf<'a, O>>)
+    requires { AreReturnable nodes.old clones.old.items }
+    ensures { RejoinsEach nodes.old clones.old.items nodes.new }
+{
+    'clones: for i in 0..clones.len() {
+        let Some(share) = clones.pop_front() else {
+            unreachable!()
+        };
+        rejoin_node(nodes, i, share);
+    }
+}
+
+// Gives a clone back to node i.
+fn rejoin_node<'a, O: Release>(nodes: &mut Nodes<IoBuf<'a, O>>, i: usize, share: IoBuf<'a, O>)
+    requires there { i < length nodes.old }
+    requires returnable { IfSome (slice_get nodes.old i) (λ n. IsReturnable n.share share.share) }
+    ensures { RejoinsAt i nodes.old share.entry.share nodes.new }
+{
+    let mut node = nodes.swap(i, IoBuf::wrap(&[]));
+    rejoin(&mut node, share);
+    let _ = nodes.swap(i, node);
+}
