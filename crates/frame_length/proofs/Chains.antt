@@ -1,8 +1,8 @@
 -- The bytes of a chain, a segment at a time.
 use Rattle.std.proofs.Common.{◌≡◌, ℕ, zero, suc, ◌+◌, ◌≤◌, List, [], ◌∷◌, ◌++◌, Some, None, length, take, drop, slice_get, refl, ap, sym, ◌∙◌, append_assoc, append-nil, add-one, length-append, arith, subst}
-use Rattle.iobuf_chain.specs.Segments.{bytes_of}
-use Rattle.frame_grammar.specs.Checks.{fault_of}
-use Rattle.frame_grammar.specs.Laws.{IsLength}
+use Rattle.plain_chain.specs.Segments.{bytes_of}
+use Rattle.frame_head.specs.Checks.{fault_of}
+use Rattle.frame_head.specs.Laws.{IsLength}
 use Rattle.frame_length.specs.declared.unit.FrameUnit.{FrameUnit}
 use Rattle.frame_length.specs.Decoding.{Decoding}
 use Rattle.frame_length.specs.Scanning.{Took, Halted}

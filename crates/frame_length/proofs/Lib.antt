@@ -2,3 +2,4 @@ mod Weights
 mod Looks
 mod Steps
 mod Chains
+mod Aims

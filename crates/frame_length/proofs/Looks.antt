@@ -1,15 +1,15 @@
 -- Looks at a stream whose length field is there.
 use Rattle.std.proofs.Common.{◌≡◌, ℕ, ◌+◌, ◌-◌, ◌<◌, ◌≤◌, ℤ, Bool, false, List, ◌++◌, Option, Some, None, length, take, drop, nat_lt, if◌then◌else◌, refl, ap, sym, ◌∙◌, arith, length-append, length-take, take-append-drop, le-ltb, lt-ltb}
-use Rattle.frame_grammar.specs.declared.codecs.Codec.TheVariants.{Length}
-use Rattle.frame_grammar.specs.declared.codecs.FaultKind.TheVariants.{TooSmall}
-use Rattle.frame_grammar.specs.Numbers.{number_in_order, adjusted}
-use Rattle.frame_grammar.specs.Heads.{More as Needs, Whole, Bad, UsesAtLeast, sized, measured, length_head, head}
-use Rattle.frame_grammar.proofs.Length.{same_field, uses_field, uses_frame}
-use Rattle.frame_length.specs.declared.heads.Cut.{Cut}
-use Rattle.frame_length.specs.declared.heads.Cut.TheVariants.{More, Frame, Fault}
+use Rattle.frame_head.specs.declared.codecs.Codec.TheVariants.{Length}
+use Rattle.frame_head.specs.declared.codecs.FaultKind.TheVariants.{TooSmall}
+use Rattle.frame_head.specs.Numbers.{number_in_order, adjusted}
+use Rattle.frame_head.specs.Heads.{More as Needs, Whole, Bad, UsesAtLeast, sized, measured, length_head, head}
+use Rattle.frame_head.proofs.Length.{same_field, uses_field, uses_frame}
+use Rattle.frame_length.specs.declared.heads.Start.{Start}
+use Rattle.frame_length.specs.declared.heads.Start.TheVariants.{Open, Frame, Fault}
 use Rattle.frame_length.specs.Scanning.{IsHead, IsSized}
 
-there : (x : Bool) (m : Rattle.frame_grammar.specs.Heads.Head) → x ≡ false → (if x then Needs else m) ≡ m
+there : (x : Bool) (m : Rattle.frame_head.specs.Heads.Head) → x ≡ false → (if x then Needs else m) ≡ m
 there x m e = rw e refl
 
 -- the head of a stream whose field is there
@@ -30,7 +30,7 @@ head_taken field offset adjust strip little max k s o within far is =
     head_there field offset adjust strip little max (take k s) o inside (ap (λ w. adjusted (number_in_order little w) adjust) (sym all) ∙ is)
 
 pub looked_short : (field offset : ℕ) (adjust : ℤ) (strip : ℕ) (little : Bool) (max : ℕ) (s : List ℕ) → length s < offset + field
-    → IsHead (Length field offset adjust strip little max) s (More (offset + field - length s))
+    → IsHead (Length field offset adjust strip little max) s (Open (offset + field - length s))
 looked_short field offset adjust strip little max s short = (
   ap (λ b. if b then Needs else measured strip max (offset + field) (adjusted (number_in_order little (take field (drop offset s))) adjust) s) (lt-ltb (length s) (offset + field) short),
   omega arith,
@@ -43,11 +43,11 @@ pub looked_small : (field offset : ℕ) (adjust : ℤ) (strip : ℕ) (little : B
 looked_small field offset adjust strip little max s some within is =
     (head_taken field offset adjust strip little max (offset + field) s None within (omega arith) is, omega arith)
 
-pub looked_sized : (field offset : ℕ) (adjust : ℤ) (strip : ℕ) (little : Bool) (max n : ℕ) (s : List ℕ) (cut : Cut) → 0 < field → offset + field ≤ length s
+pub looked_sized : (field offset : ℕ) (adjust : ℤ) (strip : ℕ) (little : Bool) (max n : ℕ) (s : List ℕ) (start : Start) → 0 < field → offset + field ≤ length s
     → adjusted (number_in_order little (take field (drop offset s))) adjust ≡ Some n
-    → IsSized strip max (n + (offset + field)) s cut
-    → IsHead (Length field offset adjust strip little max) s cut
-looked_sized field offset adjust strip little max n s (More wanted) some within is sized = (
+    → IsSized strip max (n + (offset + field)) s start
+    → IsHead (Length field offset adjust strip little max) s start
+looked_sized field offset adjust strip little max n s (Open wanted) some within is sized = (
   head_there field offset adjust strip little max s (Some n) within is ∙ sized.0,
   sized.1,
   λ r few. uses_frame field offset adjust strip little max (length (s ++ r)) n s r within is (omega (arith, length-append s r, sized.2)),

@@ -1,21 +1,21 @@
 -- What steps of a decoder do to the streams for which it stands.
 use Rattle.std.proofs.Common.{◌≡◌, ℕ, ◌+◌, ◌-◌, ◌<◌, ◌≤◌, List, [], ◌∷◌, ◌++◌, None, length, take, drop, refl, ap, sym, subst, ◌∙◌, append_assoc, append-nil, arith, length-append, length-take, length-take-le, take-append-drop, take_all, take-add, add-zero, min}
 use Rattle.std.proofs.lemmas.List.{take_min, take_rest, drop-take}
-use Rattle.frame_grammar.specs.declared.codecs.FaultKind.{FaultKind}
-use Rattle.frame_grammar.specs.declared.codecs.Codec.{Codec}
-use Rattle.frame_grammar.specs.Checks.{fault_of}
-use Rattle.frame_grammar.specs.Laws.{IsLength}
-use Rattle.frame_grammar.specs.Heads.{Head, More, Whole, Bad, UsesAtLeast, head}
-use Rattle.frame_grammar.specs.Units.{FramingUnit, FrameAt, FaultAt, unit_and, left_by, overrun_by, units, rest, overrun}
-use Rattle.frame_grammar.proofs.Steady.{Steady}
-use Rattle.frame_grammar.proofs.Length.{steady}
-use Rattle.frame_grammar.proofs.Cutting.{absorbed, passed, extends}
+use Rattle.frame_head.specs.declared.codecs.FaultKind.{FaultKind}
+use Rattle.frame_head.specs.declared.codecs.Codec.{Codec}
+use Rattle.frame_head.specs.Checks.{fault_of}
+use Rattle.frame_head.specs.Laws.{IsLength}
+use Rattle.frame_head.specs.Heads.{Head, More, Whole, Bad, UsesAtLeast, head}
+use Rattle.frame_head.specs.Units.{FramingUnit, FrameAt, FaultAt, unit_and, left_by, overrun_by, units, rest, overrun}
+use Rattle.frame_head.proofs.Steady.{Steady}
+use Rattle.frame_head.proofs.Length.{steady}
+use Rattle.frame_head.proofs.Cutting.{absorbed, passed, extends}
 use Rattle.frame_length.specs.declared.unit.FrameUnit.{FrameUnit}
 use Rattle.frame_length.specs.Units.{units_of, Grew, GrewPartly}
 use Rattle.frame_length.specs.Decoding.{Decoding, StandsFor}
 use Rattle.frame_length.specs.Scanning.{Took, Halted, Settled, Refused, Gives, IsHead}
-use Rattle.frame_length.specs.declared.heads.Cut.{Cut}
-use Rattle.frame_length.specs.declared.heads.Cut.TheVariants.{More as Wants, Frame as AFrame, Fault as AFault}
+use Rattle.frame_length.specs.declared.heads.Start.{Start}
+use Rattle.frame_length.specs.declared.heads.Start.TheVariants.{Open as Wants, Frame as AFrame, Fault as AFault}
 
 pub units_of-append : (xs ys : List FrameUnit) → units_of (xs ++ ys) ≡ units_of xs ++ units_of ys
 units_of-append [] ys = refl
@@ -152,7 +152,7 @@ uses_of : (n : ℕ) (c d : Head) → c ≡ d → UsesAtLeast n c → UsesAtLeast
 uses_of n c d e uses = let P : Head → Type 0 = λ w. UsesAtLeast n w in subst P e uses
 
 -- a look at bytes that are open says so
-pub open_looks : (c : Codec) (s : List ℕ) (cut : Cut) → fault_of c ≡ None → IsLength c → head c s ≡ More → IsHead c s cut → ((n : ℕ) → cut ≡ Wants n → ⊥) → ⊥
+pub open_looks : (c : Codec) (s : List ℕ) (cut : Start) → fault_of c ≡ None → IsLength c → head c s ≡ More → IsHead c s cut → ((n : ℕ) → cut ≡ Wants n → ⊥) → ⊥
 open_looks c s (Wants n) checked kind is look not = not n refl
 open_looks c s (AFrame strip used) checked kind is look not =
     let e = known c (steady c checked kind) used s (Whole (drop strip (take used s)) used) look.0 (λ i. cc) in

@@ -1,6 +1,6 @@
 -- What holds of decoders.
 use Rattle.std.specs.Prelude.{[]}
-use Rattle.frame_grammar.specs.declared.codecs.Codec.{Codec}
+use Rattle.frame_head.specs.declared.codecs.Codec.{Codec}
 use Rattle.frame_length.specs.Decoding.{fresh, StandsFor}
 
 -- a fresh decoder stands for no bytes

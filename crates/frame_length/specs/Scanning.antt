@@ -1,24 +1,27 @@
 -- What one look at a stream tells, and what a part of a piece does to a decoder.
 use Rattle.std.specs.Prelude.{◌≡◌, ℕ, ◌+◌, ◌<◌, ◌≤◌, List, [], ◌∷◌, ◌++◌, length, take, drop}
-use Rattle.frame_grammar.specs.declared.codecs.Codec.{Codec}
-use Rattle.frame_grammar.specs.Heads.{Head, More as Needs, Whole, Bad, UsesAtLeast, head, sized}
-use Rattle.frame_grammar.specs.Units.{FramingUnit, unit_and, left_by, overrun_by, units}
-use Rattle.frame_length.specs.declared.heads.Cut.{Cut}
-use Rattle.frame_length.specs.declared.heads.Cut.TheVariants.{More, Frame, Fault}
+use Rattle.frame_head.specs.declared.codecs.Codec.{Codec}
+use Rattle.frame_head.specs.Heads.{Head, More as Needs, Whole, Bad, UsesAtLeast, head, sized}
+use Rattle.frame_head.specs.Units.{FramingUnit, unit_and, left_by, overrun_by, units}
+use Rattle.frame_length.specs.declared.heads.Start.{Start}
+use Rattle.frame_length.specs.declared.heads.Start.TheVariants.{Open, Frame, Fault}
 use Rattle.frame_length.specs.declared.unit.FrameUnit.{FrameUnit}
 use Rattle.frame_length.specs.Units.{Grew, GrewPartly, unit_of, units_of}
 use Rattle.frame_length.specs.Decoding.{Decoding, StandsFor}
 
 -- a look at `s`: more bytes are needed, of which none of the next `wanted` is behind the unit; or the first bytes that are used are a frame, or a fault
-abbrev pub IsHead : Codec → List ℕ → Cut → Type 0
-IsHead c s (More wanted) = (head c s ≡ Needs) × (0 < wanted) × ((r : List ℕ) → length r ≤ wanted → UsesAtLeast (length (s ++ r)) (head c (s ++ r)))
-IsHead c s (Frame strip used) = (head c (take used s) ≡ Whole (drop strip (take used s)) used) × (0 < used) × (strip ≤ used) × (used ≤ length s)
+abbrev pub IsHead : Codec → List ℕ → Start → Type 0
+IsHead c s (Open wanted) = (head c s ≡ Needs) × (0 < wanted)
+    × ((r : List ℕ) → length r ≤ wanted → UsesAtLeast (length (s ++ r)) (head c (s ++ r)))
+IsHead c s (Frame strip used) = (head c (take used s) ≡ Whole (drop strip (take used s)) used) × (0 < used)
+    × (strip ≤ used) × (used ≤ length s)
 IsHead c s (Fault kind used) = (head c (take used s) ≡ Bad kind used) × (0 < used)
 
 -- the same of a frame that ends at `t`
-abbrev pub IsSized : ℕ → ℕ → ℕ → List ℕ → Cut → Type 0
-IsSized strip max t s (More wanted) = (sized strip max t s ≡ Needs) × (0 < wanted) × (length s + wanted ≡ t)
-IsSized strip max t s (Frame n used) = (sized strip max t (take used s) ≡ Whole (drop n (take used s)) used) × (used ≡ t) × (n ≤ used) × (used ≤ length s)
+abbrev pub IsSized : ℕ → ℕ → ℕ → List ℕ → Start → Type 0
+IsSized strip max t s (Open wanted) = (sized strip max t s ≡ Needs) × (0 < wanted) × (length s + wanted ≡ t)
+IsSized strip max t s (Frame n used) = (sized strip max t (take used s) ≡ Whole (drop n (take used s)) used)
+    × (used ≡ t) × (n ≤ used) × (used ≤ length s)
 IsSized strip max t s (Fault kind used) = (sized strip max t (take used s) ≡ Bad kind used) × (used ≡ t)
 
 -- a decoder took the bytes `p`

@@ -1,7 +1,7 @@
 -- The units that a decoder hands out, and those of the grammar.
 use Rattle.std.specs.Prelude.{◌≡◌, List, ◌++◌, map}
-use Rattle.iobuf_chain.specs.Segments.{bytes_of}
-use Rattle.frame_grammar.specs.Units.{FramingUnit, FrameAt, FaultAt}
+use Rattle.plain_chain.specs.Segments.{bytes_of}
+use Rattle.frame_head.specs.Units.{FramingUnit, FrameAt, FaultAt}
 use Rattle.frame_length.specs.declared.unit.FrameUnit.{FrameUnit}
 use Rattle.frame_length.specs.declared.unit.FrameUnit.TheVariants.{Frame, Fault}
 

@@ -1,18 +1,18 @@
 ghost use Rattle.std.specs.Prelude.{◌≡◌, ◌↔◌, ℕ, ◌+◌, ◌-◌, ◌<◌, ◌≤◌, ◌^◌, List, [], ◌++◌, None, length, take, drop, min, IsTrue, IsErr, IsErrOf, IfOk, OnOk, OnErr};
-ghost use Rattle.iobuf_chain.specs.Segments.{bytes_of};
-ghost use Rattle.frame_grammar.specs.Checks.{fault_of};
-ghost use Rattle.frame_grammar.specs.Laws.{IsLength};
-ghost use Rattle.frame_grammar.specs.Units.{units, ended};
+ghost use Rattle.plain_chain.specs.Segments.{bytes_of};
+ghost use Rattle.frame_head.specs.Checks.{fault_of};
+ghost use Rattle.frame_head.specs.Laws.{IsLength};
+ghost use Rattle.frame_head.specs.Units.{units, ended};
 ghost use Rattle.frame_length.specs.Units.{Grew, GrewPartly};
-ghost use Rattle.frame_grammar.specs.Heads.{UsesAtLeast, head};
-ghost use Rattle.frame_grammar.specs.Units.{FrameAt, FaultAt};
+ghost use Rattle.frame_head.specs.Heads.{UsesAtLeast, head};
+ghost use Rattle.frame_head.specs.Units.{FrameAt, FaultAt};
 ghost use Rattle.frame_length.specs.Decoding.{fresh, StandsFor};
 ghost use Rattle.frame_length.specs.Scanning.{Gives, Halted, Refused, Settled, Took};
 
-use crate::heads::{Cut, look};
+use crate::heads::{Start, look};
 use crate::unit::FrameUnit;
-use frame_grammar::{Codec, FaultKind};
-use iobuf_chain::{Chain, Frame};
+use frame_head::{Codec, FaultKind};
+use plain_chain::{Chain, Frame};
 use std::alloc::{AllocError, Global};
 use std::marker::Model;
 use std::mem;
@@ -39,15 +39,16 @@ pub struct LengthDecoder {
 impl Model for LengthDecoder {
     ghost use Rattle.std.specs.Prelude.{◌≡◌, ◌≤◌, None, length};
     ghost use Rattle.frame_length.specs.Decoding.{Decoding};
-    ghost use Rattle.frame_grammar.specs.Checks.{fault_of};
-    ghost use Rattle.frame_grammar.specs.Heads.{More, head};
-    ghost use Rattle.frame_grammar.specs.Laws.{IsLength};
+    ghost use Rattle.frame_head.specs.Checks.{fault_of};
+    ghost use Rattle.frame_head.specs.Heads.{More, head};
+    ghost use Rattle.frame_head.specs.Laws.{IsLength};
 
     ghost Value = { Decoding };
 
     ghost view = { λ d. record { codec = d.codec; fed = d.fed; kept = d.kept.items; skip = d.skip; dead = d.dead } };
 
-    ghost invariant = { λ d. (fault_of d.codec ≡ None) × IsLength d.codec × (head d.codec d.kept.items ≡ More) × (length d.kept.items ≤ d.fed) };
+    ghost invariant = { λ d. (fault_of d.codec ≡ None) × IsLength d.codec × (head d.codec d.kept.items ≡ More)
+        × (length d.kept.items ≤ d.fed) };
 }
 
 impl LengthDecoder {
@@ -76,8 +77,13 @@ impl LengthDecoder {
         found: &mut Vec<FrameUnit>,
     ) -> Result<(), FeedFault>
         requires { self.old.fed + length (bytes_of piece) < 2 ^ 62 }
-        ensures units { OnOk result ((h : List ℕ) → StandsFor self.old h → StandsFor self.new (h ++ bytes_of piece.entry) × Grew (units self.old.codec h) (units self.old.codec (h ++ bytes_of piece.entry)) found.old.items found.new.items) }
-        ensures part { IsErrOf result FeedFault.NoMemory → (h : List ℕ) → StandsFor self.old h → GrewPartly (units self.old.codec h) (units self.old.codec (h ++ bytes_of piece.entry)) found.old.items found.new.items }
+        ensures units { OnOk result ((h : List ℕ) → StandsFor self.old h
+            → StandsFor self.new (h ++ bytes_of piece.entry)
+            × Grew (units self.old.codec h) (units self.old.codec
+            (h ++ bytes_of piece.entry)) found.old.items found.new.items) }
+        ensures part { IsErrOf result FeedFault.NoMemory → (h : List ℕ) → StandsFor self.old h
+            → GrewPartly (units self.old.codec h) (units self.old.codec
+            (h ++ bytes_of piece.entry)) found.old.items found.new.items }
         ensures dead { IsErrOf result FeedFault.Dead ↔ IsTrue self.old.dead }
         ensures refused { IsErrOf result FeedFault.Dead → (self.new ≡ self.old) × (found.new.items ≡ found.old.items) }
         ensures dies { IsTrue self.new.dead ↔ IsErr result }
@@ -98,7 +104,8 @@ impl LengthDecoder {
 
     /// Ends the stream, and adds what its end adds. The decoder is dead from then on.
     pub fn end(&mut self, alloc: Global, found: &mut Vec<FrameUnit>) -> Result<(), FeedFault>
-        ensures units { OnOk result ((h : List ℕ) → StandsFor self.old h → Grew (units self.old.codec h) (ended self.old.codec h) found.old.items found.new.items) }
+        ensures units { OnOk result ((h : List ℕ) → StandsFor self.old h
+            → Grew (units self.old.codec h) (ended self.old.codec h) found.old.items found.new.items) }
         ensures part { IsErrOf result FeedFault.NoMemory → found.new.items ≡ found.old.items }
         ensures dead { IsErrOf result FeedFault.Dead ↔ IsTrue self.old.dead }
         ensures refused { IsErrOf result FeedFault.Dead → (self.new ≡ self.old) × (found.new.items ≡ found.old.items) }
@@ -218,18 +225,18 @@ impl LengthDecoder {
         ensures err { OnErr result (Refused self.old self.new found.old.items found.new.items) }
     {
         match look(&self.codec, bytes) {
-            Cut::More { .. } => {
+            Start::Open { .. } => {
                 self.kept.extend_from_slice(bytes)?;
                 self.fed += bytes.len() as u64;
                 Ok(bytes.len())
             }
-            Cut::Frame { strip, used } => {
+            Start::Frame { strip, used } => {
                 let content = Vec::from_slice(alloc, &bytes[strip..used])?;
                 give_frame(alloc, self.fed, content, found)?;
                 self.fed += used as u64;
                 Ok(used)
             }
-            Cut::Fault { kind, used } => {
+            Start::Fault { kind, used } => {
                 give_fault(self.fed, kind, found)?;
                 let n = least(used, bytes.len());
                 self.skip = used - n as u128;
@@ -265,10 +272,11 @@ impl LengthDecoder {
     // How many bytes the unit of which bytes are kept wants at least.
     fn wanted(&self) -> usize
         ensures some { 0 < result }
-        ensures within { (r : List ℕ) → length r ≤ result → UsesAtLeast (length (self.now.kept ++ r)) (head self.now.codec (self.now.kept ++ r)) }
+        ensures within { (r : List ℕ) → length r ≤ result
+            → UsesAtLeast (length (self.now.kept ++ r)) (head self.now.codec (self.now.kept ++ r)) }
     {
         match look(&self.codec, &self.kept) {
-            Cut::More { wanted } => wanted,
+            Start::Open { wanted } => wanted,
             _ => unreachable!(),
         }
     }
@@ -285,21 +293,22 @@ impl LengthDecoder {
         requires fed { length whole.items ≤ self.old.fed }
         requires kept { self.old.kept ≡ [] }
         requires skip { self.old.skip ≡ 0 }
-        ensures ok { OnOk result (Settled self.old self.new at whole.items (head self.old.codec whole.items) found.old.items found.new.items) }
+        ensures ok { OnOk result (Settled self.old self.new at whole.items
+            (head self.old.codec whole.items) found.old.items found.new.items) }
         ensures err { OnErr result (Refused self.old self.new found.old.items found.new.items) }
         ensures fed { self.new.fed ≡ self.old.fed }
     {
         match look(&self.codec, &whole) {
-            Cut::More { .. } => {
+            Start::Open { .. } => {
                 self.kept = whole;
                 Ok(())
             }
-            Cut::Frame { strip, .. } => {
+            Start::Frame { strip, .. } => {
                 let content = without_front(alloc, whole, strip)?;
                 give_frame(alloc, at, content, found)?;
                 Ok(())
             }
-            Cut::Fault { kind, used } => {
+            Start::Fault { kind, used } => {
                 give_fault(at, kind, found)?;
                 self.skip = used - whole.len() as u128;
                 Ok(())

@@ -1,6 +1,6 @@
 ghost use Rattle.std.specs.Prelude.{◌≡◌, ◌+◌, ◌≤◌, ◌<◌, None, length, OnOk};
-ghost use Rattle.frame_grammar.specs.Checks.{fault_of};
-ghost use Rattle.frame_grammar.specs.Laws.{IsLength};
+ghost use Rattle.frame_head.specs.Checks.{fault_of};
+ghost use Rattle.frame_head.specs.Laws.{IsLength};
 
 use crate::{Chain, Codec, FeedFault, FrameUnit, LengthDecoder, check};
 use std::alloc::Global;

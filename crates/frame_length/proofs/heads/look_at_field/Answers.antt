@@ -1,5 +1,5 @@
 use Rattle.std.proofs.Common.{◌≡◌, ◌+◌, ◌-◌, arith, ap, sym, ◌∙◌, take, drop, rules, to_z, of_z, w32}
-use Rattle.frame_grammar.specs.Numbers.{number_in_order, adjusted}
+use Rattle.frame_head.specs.Numbers.{number_in_order, adjusted}
 use Rattle.frame_length.proofs.Looks.{looked_small, looked_sized}
 use Rattle.frame_length.proofs.heads.look_at_field.Goals as goal
 

@@ -1,5 +1,5 @@
 use Rattle.std.proofs.Common.{◌≡◌, ◌<◌, ◌*◌, ◌+◌, ◌-◌, ◌^◌, length, arith, ap, sym, ◌∙◌, drop, reverse, slice_index_or, subst, ℕ}
-use Rattle.frame_grammar.specs.Numbers.{number}
+use Rattle.frame_head.specs.Numbers.{number}
 use Rattle.frame_length.proofs.Weights.{room, number_left, below_more}
 use Rattle.frame_length.proofs.numbers.least_first.Goals as goal
 

@@ -1,5 +1,5 @@
 use Rattle.std.proofs.Common.{◌≡◌, ◌-◌, ◌<◌, ◌≤◌, ◌^◌, drop, length, reverse}
-use Rattle.frame_grammar.specs.Numbers.{number}
+use Rattle.frame_head.specs.Numbers.{number}
 use Rattle.frame_length.proofs.numbers.least_first.Given as goal
 
 abbrev pub invariant-loop-i : goal.invariant-loop-i

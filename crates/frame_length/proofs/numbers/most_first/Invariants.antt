@@ -1,5 +1,5 @@
 use Rattle.std.proofs.Common.{◌≡◌, ◌<◌, ◌^◌, take}
-use Rattle.frame_grammar.specs.Numbers.{number}
+use Rattle.frame_head.specs.Numbers.{number}
 use Rattle.frame_length.proofs.numbers.most_first.Given as goal
 
 abbrev pub invariant-loop-x : goal.invariant-loop-x

@@ -1,6 +1,6 @@
 use Rattle.std.proofs.Common.{◌≡◌, ◌-◌, None, length, drop, arith, length-take, subst}
-use Rattle.frame_grammar.specs.Checks.{fault_of}
-use Rattle.frame_grammar.specs.Laws.{IsLength}
+use Rattle.frame_head.specs.Checks.{fault_of}
+use Rattle.frame_head.specs.Laws.{IsLength}
 use Rattle.frame_length.specs.Decoding.{Decoding}
 use Rattle.frame_length.proofs.Steps.{halted_at, took_part}
 use Rattle.frame_length.proofs.decoder.LengthDecoder.scan.Goals as goal

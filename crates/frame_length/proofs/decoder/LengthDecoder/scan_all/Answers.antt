@@ -1,6 +1,6 @@
 use Rattle.std.proofs.Common.{◌≡◌, None, arith, subst}
-use Rattle.frame_grammar.specs.Checks.{fault_of}
-use Rattle.frame_grammar.specs.Laws.{IsLength}
+use Rattle.frame_head.specs.Checks.{fault_of}
+use Rattle.frame_head.specs.Laws.{IsLength}
 use Rattle.frame_length.specs.Decoding.{Decoding}
 use Rattle.frame_length.proofs.Chains.{room_in, took_segment, halted_segment}
 use Rattle.frame_length.proofs.decoder.LengthDecoder.scan_all.Goals as goal

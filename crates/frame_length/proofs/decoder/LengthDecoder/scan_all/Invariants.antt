@@ -1,5 +1,5 @@
 use Rattle.std.proofs.Common.{take}
-use Rattle.iobuf_chain.specs.Segments.{bytes_of}
+use Rattle.plain_chain.specs.Segments.{bytes_of}
 use Rattle.frame_length.specs.Scanning.{Took}
 use Rattle.frame_length.proofs.decoder.LengthDecoder.scan_all.Given as goal
 

@@ -1,7 +1,7 @@
 use Rattle.std.proofs.Common.{◌≡◌, ℕ, ◌-◌, List, length, arith, ap, sym, ◌∙◌, refl, subst}
-use Rattle.frame_grammar.specs.Heads.{UsesAtLeast, head}
+use Rattle.frame_head.specs.Heads.{UsesAtLeast, head}
 use Rattle.frame_length.specs.Scanning.{Settled, IsHead}
-use Rattle.frame_length.specs.declared.heads.Cut.TheVariants.{Frame, Fault}
+use Rattle.frame_length.specs.declared.heads.Start.TheVariants.{Frame, Fault}
 use Rattle.frame_length.specs.Decoding.{Decoding}
 use Rattle.frame_length.proofs.Steps.{fault_uses, settled_fault, settled_frame}
 use Rattle.frame_length.proofs.decoder.LengthDecoder.settle.Goals as goal

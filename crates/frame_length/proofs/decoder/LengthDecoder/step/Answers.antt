@@ -1,6 +1,6 @@
 use Rattle.std.proofs.Common.{◌≡◌, ◌+◌, ◌-◌, None, length, take, arith, ap, sym, ◌∙◌, length-take, subst}
-use Rattle.frame_grammar.specs.Checks.{fault_of}
-use Rattle.frame_grammar.specs.Laws.{IsLength}
+use Rattle.frame_head.specs.Checks.{fault_of}
+use Rattle.frame_head.specs.Laws.{IsLength}
 use Rattle.frame_length.specs.Decoding.{Decoding}
 use Rattle.frame_length.proofs.Steps.{took_skipped}
 use Rattle.frame_length.proofs.decoder.LengthDecoder.step.Goals as goal

@@ -4,15 +4,15 @@ use Rattle.frame_length.specs.Decoding.{Decoding}
 use Rattle.frame_length.proofs.Steps.{took_open, took_frame, took_fault}
 use Rattle.frame_length.proofs.decoder.LengthDecoder.step_from_front.Goals as goal
 
-pub returns-in_ok-extend_from_slice-in-More-clause-ok : goal.returns-in_ok-extend_from_slice-in-More-clause-ok
-returns-in_ok-extend_from_slice-in-More-clause-ok c =
+pub returns-in_ok-extend_from_slice-in-Open-clause-ok : goal.returns-in_ok-extend_from_slice-in-Open-clause-ok
+returns-in_ok-extend_from_slice-in-Open-clause-ok c =
     let none : c.self.inside.kept.items ≡ [] = ap (λ (d : Decoding). d.kept) c.self.view_is ∙ c.requires.kept in
     let still : c.self.inside.skip ≡ 0 = ap (λ (d : Decoding). d.skip) c.self.view_is ∙ c.requires.skip in
     let after : Decoding = record { codec = c.self.inside.codec; fed = c.self.inside.fed + length c.args.bytes.now; kept = c.extend_from_slice.new.self.items; skip = c.self.inside.skip; dead = c.self.inside.dead } in
     let R : Decoding → Type 0 = λ d. Took d after (take (length c.args.bytes.now) c.args.bytes.now) c.args.found.now.items c.args.found.now.items in
     subst R c.self.view_is
-    (took_open _ after c.args.bytes.now c.args.found.now.items c.self.invariant.0 c.self.invariant.1 none still c.in-More.ensures.0
-    (c.in_ok-extend_from_slice-in-More.ensures.items ∙ ap (λ w. w ++ c.args.bytes.now) none) still refl refl refl)
+    (took_open _ after c.args.bytes.now c.args.found.now.items c.self.invariant.0 c.self.invariant.1 none still c.in-Open.ensures.0
+    (c.in_ok-extend_from_slice-in-Open.ensures.items ∙ ap (λ w. w ++ c.args.bytes.now) none) still refl refl refl)
 
 pub returns-in_ok-give_frame-in-Frame-clause-ok : goal.returns-in_ok-give_frame-in-Frame-clause-ok
 returns-in_ok-give_frame-in-Frame-clause-ok c =

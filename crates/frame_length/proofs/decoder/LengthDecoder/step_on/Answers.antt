@@ -1,5 +1,5 @@
 use Rattle.std.proofs.Common.{◌≡◌, ℕ, ◌-◌, ◌≤◌, List, ◌++◌, length, take, arith, ap, sym, ◌∙◌, refl, length-take, subst, Vec, Global}
-use Rattle.frame_grammar.specs.Heads.{UsesAtLeast, head}
+use Rattle.frame_head.specs.Heads.{UsesAtLeast, head}
 use Rattle.frame_length.specs.Scanning.{Took}
 use Rattle.frame_length.specs.Decoding.{Decoding}
 use Rattle.frame_length.proofs.Steps.{took_on}

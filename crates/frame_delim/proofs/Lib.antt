@@ -1,0 +1,4 @@
+pub mod Keeps
+pub mod Ends
+pub mod Sizes
+pub mod Scans

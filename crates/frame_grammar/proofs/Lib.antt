@@ -1,4 +1,0 @@
-pub mod Lists
-pub mod Steady
-pub mod Length
-pub mod Cutting

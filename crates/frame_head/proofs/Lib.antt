@@ -1,0 +1,11 @@
+pub mod Lists
+pub mod Steady
+pub mod Length
+pub mod Ended
+pub mod Fixed
+pub mod Passed
+pub mod FirstEnding
+pub mod Cutting
+pub mod Delimiters
+pub mod Fits
+pub mod Shortness

@@ -1,0 +1,10 @@
+pub mod Numbers
+pub mod Endings
+pub mod Heads
+pub mod Units
+pub mod Checks
+pub mod Outs
+pub mod Longest
+pub mod Bounds
+pub mod Laws
+pub mod Examples

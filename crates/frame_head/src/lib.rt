@@ -1,0 +1,20 @@
+//! The grammar of framed streams: what the frames and the faults of a list of bytes are.
+//!
+//! The definitions stand in `specs/`, over the types of this crate. The laws on them are public functions of `laws`.
+#![tactic(auto)]
+
+mod checks;
+mod codecs;
+mod copies;
+pub mod laws;
+mod lengths;
+mod out;
+#[cfg(test)]
+mod out_tests;
+#[cfg(test)]
+mod tests;
+
+pub use checks::{CodecFault, check};
+pub use codecs::{Codec, FaultKind, LineEnd, Mark, Marks};
+pub use lengths::{longest, most_in_field};
+pub use out::{Out, check_out};

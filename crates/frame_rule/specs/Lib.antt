@@ -1,0 +1,3 @@
+pub mod Scanning
+pub mod Endings
+pub mod Decoding
