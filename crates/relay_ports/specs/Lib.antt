@@ -1,3 +1,7 @@
 pub mod Told
+pub mod States
+pub mod Calls
 pub mod Memory
-pub mod Inputs
+pub mod Entries
+pub mod Lending
+pub mod Hosting

@@ -1,19 +1,15 @@
-ghost use Rattle.std.specs.Prelude.{◌≡◌, ℕ, List, [], ◌∷◌, ◌++◌, Option, Contains, IfOk, IfSome, IsOk, IsErrOf};
+ghost use Rattle.std.specs.Prelude.{◌≡◌, ℕ, List, Contains, replicate, IfOk, IfErr, OnOk, OnErr};
 ghost use Rattle.std.specs.Option.{ForSome};
 ghost use Rattle.std.specs.Borrow.{sem, Lends};
-ghost use Rattle.relay_ports.specs.Told.{Rose, Read, joined, put_in, taken_out};
+ghost use Rattle.relay_ports.specs.States.{HostState, IsFreshSource, IsFreshSink};
+ghost use Rattle.relay_ports.specs.Calls.{OpenedInput, FinishedInput, CreatedOutput, FinishedOutput, Unopened};
+ghost use Rattle.relay_ports.specs.Calls.{LentBlock, ReturnedBlock, SetReport};
 
+use crate::failures::{Failed, NotOpened};
+use crate::lent::Lent;
 use crate::sink::Sink;
 use crate::source::Source;
-
-/// Why nothing was opened.
-#[derive(Clone, Copy, Debug, PartialEq, Eq)]
-pub enum NotOpened {
-    /// The outside refused it.
-    Failed,
-    /// Memory was refused.
-    NoMemory,
-}
+use std::alloc::AllocError;
 
 /// What a run is given of the outside. The empty name is standard input.
 pub trait Host {
@@ -21,46 +17,54 @@ pub trait Host {
 
     type Output: Sink;
 
-    /// How often an opening failed. The count never falls, and stands still at its type's end.
-    ghost faults: { Self → ℕ };
-
-    /// The names whose opening failed, in order, where it tells them.
-    ghost refused: { Self → Option (List (List ℕ)) };
-
-    /// The names of the inputs that are open, the latest first, where it tells them.
-    ghost open_inputs: { Self → Option (List (List ℕ)) };
-
-    /// What is known of each finished input, in the order in which they were finished.
-    ghost reads: { Self → List Read };
-
-    /// The report.
-    ghost report: { Self → Self.Output };
+    /// What is known of it.
+    ghost state: { Self → HostState };
 
     /// The same host with another report.
     ghost with_report: { Self → Self.Output → Self };
 
-    /// Opens an input, which has given nothing yet.
+    /// Opens an input, which has given nothing yet. Where the outside refuses it, that is counted, and the name joins
+    /// those that were refused. Where memory is refused nothing changes.
     fn open_in(&mut self, name: &str) -> Result<Self::Input, NotOpened>
-        ensures fresh { IfOk result (λ i. IfSome (Self.Input.given i) (λ xs. xs ≡ []) × (Self.Input.faults i ≡ 0)) }
-        ensures opened { IfOk result (λ _. open_inputs self.new ≡ put_in name.now (open_inputs self.old)) }
-        ensures failed { IsErrOf result NotOpened.Failed → Rose (faults self.old) (faults self.new) × (refused self.new ≡ joined (refused self.old) name.now) }
-        ensures counted { (IsErrOf result NotOpened.Failed → ⊥) → (faults self.new ≡ faults self.old) × (refused self.new ≡ refused self.old) }
-        ensures unopened { (IsOk result → ⊥) → open_inputs self.new ≡ open_inputs self.old }
-        ensures same { (report self.new ≡ report self.old) × (reads self.new ≡ reads self.old) };
+        ensures opened { OnOk result (OpenedInput name.now (state self.old) (state self.new)) }
+        ensures unopened { IfErr result (λ e. Unopened e name.now (state self.old) (state self.new)) }
+        ensures fresh { IfOk result (λ i. IsFreshSource (Self.Input.state i)) };
 
     /// Takes an input back that was opened under this name. It takes no memory.
     fn finish_in(&mut self, name: &str, input: Self::Input)
-        requires { ForSome (open_inputs self.old) (λ names. Contains names name.now) }
-        ensures reads { reads self.new ≡ reads self.old ++ record { name = name.now; given = Self.Input.given input; left = Self.Input.left input; faults = Self.Input.faults input } ∷ [] }
-        ensures closed { open_inputs self.new ≡ taken_out name.now (open_inputs self.old) }
-        ensures same { (faults self.new ≡ faults self.old) × (refused self.new ≡ refused self.old) × (report self.new ≡ report self.old) };
+        requires { ForSome (state self.old).open_inputs (λ names. Contains names name.now) }
+        ensures closed { FinishedInput name.now (Self.Input.state input) (state self.old) (state self.new) };
+
+    /// Makes an output, which has taken nothing yet. It is refused as the opening of an input is.
+    fn create_out(&mut self, name: &str) -> Result<Self::Output, NotOpened>
+        ensures created { OnOk result (CreatedOutput name.now (state self.old) (state self.new)) }
+        ensures unopened { IfErr result (λ e. Unopened e name.now (state self.old) (state self.new)) }
+        ensures fresh { IfOk result (λ o. IsFreshSink (Self.Output.state o)) };
+
+    /// Takes an output back that was made under this name. What it took is now the text under the name, also where
+    /// the finishing fails, which is counted. It takes no memory.
+    fn finish_out(&mut self, name: &str, output: Self::Output) -> Result<(), Failed>
+        requires { ForSome (state self.old).open_outputs (λ names. Contains names name.now) }
+        ensures closed { FinishedOutput result name.now (Self.Output.state output) (state self.old) (state self.new) };
+
+    /// Lends a block of `size` zero bytes, under a number that no block had before. Where memory is refused nothing
+    /// changes.
+    fn lend(&mut self, size: usize) -> Result<Lent, AllocError>
+        ensures zeros { IfOk result (λ b. b.bytes.items ≡ replicate size 0) }
+        ensures number { IfOk result (λ b. b.number ≡ (state self.old).lends) }
+        ensures lent { OnOk result (LentBlock (state self.old) (state self.new)) }
+        ensures refused { OnErr result (state self.new ≡ state self.old) };
+
+    /// Takes a block back that is out. It takes no memory.
+    fn take_back(&mut self, block: Lent)
+        requires { Contains (state self.old).lent block.number }
+        ensures returned { ReturnedBlock block.number (state self.old) (state self.new) };
 
     /// Lends the report, which is afterwards as the borrower left it. It takes no memory.
     fn report(&mut self) -> &mut Self::Output
         ensures* lends { sem 𝓛 (Lends Self.row Self.Output.row self.entry result (with_report self.old)) }
-        ensures value { result.now ≡ report self.old };
+        ensures value { Self.Output.state result.now ≡ (state self.old).report };
 
-    ghost reported: { (h : Self) (w : Self.Output) → report (with_report h w) ≡ w };
-
-    ghost apart: { (h : Self) (w : Self.Output) → (faults (with_report h w) ≡ faults h) × (refused (with_report h w) ≡ refused h) × (open_inputs (with_report h w) ≡ open_inputs h) × (reads (with_report h w) ≡ reads h) };
+    /// Where the report is another, only its state is.
+    ghost told: { (h : Self) (w : Self.Output) → SetReport (Self.Output.state w) (state h) (state (with_report h w)) };
 }
