@@ -1,0 +1,4 @@
+pub mod Told
+pub mod Prints
+pub mod Blocks
+pub mod Digits

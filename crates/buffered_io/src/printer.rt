@@ -1,0 +1,189 @@
+ghost use Rattle.std.specs.Prelude.{◌≡◌, ◌+◌, ◌*◌, ◌≤◌, false, [], length, decimal, IfOk};
+ghost use Rattle.hex.specs.Hex.{encode_lower};
+ghost use Rattle.relay_ports.specs.States.{SinkState};
+ghost use Rattle.buffered_io.specs.Writing.{PrintsTo, outlet};
+
+use crate::texts::{write_bytes, write_decimal, write_hexadecimal};
+use crate::writing::write_all;
+use relay_ports::Sink;
+use std::alloc::{AllocError, Global};
+use std::marker::Model;
+
+// How many bytes wait at most.
+const ROOM: usize = 65_536;
+
+/// Text on its way to a sink, gathered into few large writes.
+///
+/// It takes 64 KiB when it is made, and no memory after that. Each call is linear in what it prints. Once a write has
+/// failed nothing more is printed, and the sink isn't called again.
+#[derive(Debug, Drop)]
+pub struct Printer {
+    room: Vec<u8>,
+    used: usize,
+    failed: bool,
+}
+
+impl Model for Printer {
+    ghost use Rattle.std.specs.Prelude.{◌≡◌, ℕ, ◌≤◌, true, take, vec_len};
+    ghost use Rattle.buffered_io.specs.Writing.{Waiting};
+
+    ghost Value = { Waiting };
+
+    ghost view = { λ p. record { text = take p.used p.room.items; failed = p.failed } };
+
+    ghost invariant = { λ p. (vec_len p.room ≡ 65536) × (p.used ≤ 65536) × (p.failed ≡ true → p.used ≡ 0) };
+}
+
+impl Printer {
+    /// A printer with no text.
+    pub fn new(alloc: Global) -> Result<Printer, AllocError>
+        ensures { IfOk result (λ p. p ≡ record { text = []; failed = false }) }
+    {
+        Ok(Printer {
+            room: vec![in alloc; 0u8; ROOM]?,
+            used: 0,
+            failed: false,
+        })
+    }
+
+    /// Whether a write failed.
+    pub fn failed(&self) -> bool
+        ensures { result ≡ self.now.failed }
+    {
+        self.failed
+    }
+
+    /// Prints bytes as they are.
+    #[inline(always)]
+    pub fn put<W: Sink>(&mut self, sink: &mut W, bytes: &[u8])
+        ensures { PrintsTo bytes.now (outlet self.old (W.state sink.old)) (outlet self.new (W.state sink.new)) }
+    {
+        if bytes.len() <= ROOM - self.used {
+            self.keep(bytes);
+        } else {
+            self.put_in_pieces(sink, bytes);
+        }
+    }
+
+    // The long way, where there is no room for all.
+    #[inline(never)]
+    fn put_in_pieces<W: Sink>(&mut self, sink: &mut W, bytes: &[u8])
+        ensures { PrintsTo bytes.now (outlet self.old (W.state sink.old)) (outlet self.new (W.state sink.new)) }
+    {
+        let mut at = 0;
+        'pieces: while at < bytes.len() {
+            self.make_room(sink, 1);
+            let n = (bytes.len() - at).min(ROOM - self.used);
+            self.keep(&bytes[at..at + n]);
+            at += n;
+        }
+    }
+
+    /// Prints a number in decimal.
+    #[inline]
+    pub fn put_decimal<W: Sink>(&mut self, sink: &mut W, n: u64)
+        ensures { PrintsTo (decimal n) (outlet self.old (W.state sink.old)) (outlet self.new (W.state sink.new)) }
+    {
+        self.make_room(sink, 20);
+        self.keep_decimal(n);
+    }
+
+    /// Prints bytes in lower-case hexadecimal, two digits a byte.
+    #[inline]
+    pub fn put_hexadecimal<W: Sink>(&mut self, sink: &mut W, bytes: &[u8])
+        ensures { PrintsTo (encode_lower bytes.now)
+            (outlet self.old (W.state sink.old)) (outlet self.new (W.state sink.new)) }
+    {
+        if bytes.len() <= (ROOM - self.used) / 2 {
+            self.keep_hexadecimal(bytes);
+        } else {
+            self.put_hexadecimal_in_pieces(sink, bytes);
+        }
+    }
+
+    // The long way, where there is no room for all.
+    #[inline(never)]
+    fn put_hexadecimal_in_pieces<W: Sink>(&mut self, sink: &mut W, bytes: &[u8])
+        ensures { PrintsTo (encode_lower bytes.now)
+            (outlet self.old (W.state sink.old)) (outlet self.new (W.state sink.new)) }
+    {
+        let mut at = 0;
+        'pieces: while at < bytes.len() {
+            self.make_room(sink, 2);
+            let n = (bytes.len() - at).min((ROOM - self.used) / 2);
+            self.keep_hexadecimal(&bytes[at..at + n]);
+            at += n;
+        }
+    }
+
+    /// Writes out all that waits.
+    pub fn flush<W: Sink>(&mut self, sink: &mut W)
+        ensures prints { PrintsTo [] (outlet self.old (W.state sink.old)) (outlet self.new (W.state sink.new)) }
+        ensures empty { self.new.failed ≡ false → self.new.text ≡ [] }
+    {
+        if self.failed {
+            return;
+        }
+        self.write_out(sink);
+    }
+
+    // Writes out all that waits where there is no room for so many bytes more.
+    #[inline]
+    fn make_room<W: Sink>(&mut self, sink: &mut W, bytes: usize)
+        requires { bytes ≤ 65536 }
+        ensures prints { PrintsTo [] (outlet self.old (W.state sink.old)) (outlet self.new (W.state sink.new)) }
+        ensures room { length self.new.text + bytes ≤ 65536 }
+    {
+        if ROOM - self.used < bytes {
+            self.write_out(sink);
+        }
+    }
+
+    #[inline(never)]
+    fn write_out<W: Sink>(&mut self, sink: &mut W)
+        requires { self.old.failed ≡ false }
+        ensures prints { PrintsTo [] (outlet self.old (W.state sink.old)) (outlet self.new (W.state sink.new)) }
+        ensures empty { self.new.text ≡ [] }
+    {
+        self.failed = !write_all(sink, &self.room[..self.used]);
+        self.used = 0;
+    }
+
+    // Adds bytes for which there is room.
+    #[inline(always)]
+    fn keep(&mut self, bytes: &[u8])
+        requires { length self.old.text + length bytes.now ≤ 65536 }
+        ensures { (w : SinkState) → PrintsTo bytes.now (outlet self.old w) (outlet self.new w) }
+    {
+        if self.failed {
+            return;
+        }
+        write_bytes(&mut self.room, self.used, bytes);
+        self.used += bytes.len();
+    }
+
+    // Adds a number, for which there is room.
+    #[inline]
+    fn keep_decimal(&mut self, n: u64)
+        requires { length self.old.text + 20 ≤ 65536 }
+        ensures { (w : SinkState) → PrintsTo (decimal n) (outlet self.old w) (outlet self.new w) }
+    {
+        if self.failed {
+            return;
+        }
+        self.used += write_decimal(&mut self.room, self.used, n);
+    }
+
+    // Adds bytes in hexadecimal, for which there is room.
+    #[inline]
+    fn keep_hexadecimal(&mut self, bytes: &[u8])
+        requires { length self.old.text + 2 * length bytes.now ≤ 65536 }
+        ensures { (w : SinkState) → PrintsTo (encode_lower bytes.now) (outlet self.old w) (outlet self.new w) }
+    {
+        if self.failed {
+            return;
+        }
+        write_hexadecimal(&mut self.room, self.used, bytes);
+        self.used += 2 * bytes.len();
+    }
+}
