@@ -1,0 +1,14 @@
+pub mod Numbers
+pub mod Names
+pub mod Parts
+pub mod Hex
+pub mod Codecs
+pub mod Outs
+pub mod Stages
+pub mod Subscribers
+pub mod Item
+pub mod Items
+pub mod Faults
+pub mod Kinds
+pub mod Orders
+pub mod Good
