@@ -1,8 +1,5 @@
-pub mod Printing
-pub mod Reading
 pub mod Texts
-pub mod Cutting
-pub mod Blocks
-pub mod Ends
-pub mod Runs
-pub mod Parts
+pub mod Noted
+pub mod Cuts
+pub mod Inputs
+pub mod Hosts

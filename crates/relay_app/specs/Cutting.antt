@@ -1,75 +1,95 @@
 -- A stream that is being cut, and what comes of it.
-use Rattle.std.specs.Prelude.{◌≡◌, ℕ, ◌+◌, ◌<◌, ◌≤◌, Bool, List, [], ◌++◌, Option, IfSome, length, nat_lt, if◌then◌else◌}
-use Rattle.frame_grammar.specs.declared.codecs.Codec.{Codec}
-use Rattle.frame_grammar.specs.Units.{FramingUnit, units, ended}
+use Rattle.std.specs.Prelude.{◌≡◌, ◌⊎◌, ℕ, ◌≤◌, Bool, true, false, List, [], ◌∷◌, ◌++◌, Option, length, if◌then◌else◌}
+use Rattle.frame_head.specs.declared.codecs.Codec.{Codec}
+use Rattle.frame_head.specs.Units.{FramingUnit, units}
 use Rattle.frame_length.specs.Decoding.{Decoding, StandsFor}
-use Rattle.relay_ports.specs.Told.{grown}
-use Rattle.relay_app.specs.declared.fill.Reached.{Reached}
-use Rattle.relay_app.specs.declared.fill.Reached.TheVariants.{More, End, Failed, Limit}
+use Rattle.relay_ports.specs.States.{SourceState, SinkState}
+use Rattle.buffered_io.specs.declared.reading.Stop.{Stop}
+use Rattle.buffered_io.specs.declared.reading.Stop.TheVariants.{End, Failure, Limit}
+use Rattle.buffered_io.specs.Reading.{Read, ReadFailing, IsAtEnd}
+use Rattle.buffered_io.specs.Writing.{Waiting, Outlet, PrintsTo, outlet}
 use Rattle.relay_app.specs.declared.status.Status.{Status}
 use Rattle.relay_app.specs.declared.status.Status.TheVariants as status
-use Rattle.relay_app.specs.Frames.{IsUnlessMemory, ReadsInput, ReadsToEnd, WrotePrefix, stream_or, frames_status, frames_text}
-use Rattle.relay_app.specs.Lines.{Noted}
-use Rattle.relay_app.specs.Printing.{Desk, Printed}
-use Rattle.relay_app.specs.Text.{unit_lines, end_line}
+use Rattle.relay_app.specs.declared.stream_fault.StreamFault.{StreamFault}
+use Rattle.relay_app.specs.Framing.{framing, units_read}
+use Rattle.relay_app.specs.Noting.{fault_after, first_fault}
+use Rattle.relay_app.specs.Runs.{Command, Ends, ReportsPart, stream_or}
+use Rattle.relay_app.specs.Text.{unit_lines}
 
--- the lines of these units were printed, and their first fault was noted
-pub record Lined (start : Option (List ℕ)) (faults : ℕ) (d : Desk) (fault : Option Status) (us : List FramingUnit) : Type 0 where
-  pub printed : Printed start faults d (unit_lines us)
-  pub noted : Noted fault us
+abbrev pub is_end : Stop → Bool
+is_end End = true
+is_end Failure = false
+is_end Limit = false
 
--- the bytes `h` were cut, so many as were read
-pub record Stands (codec : Codec) (start : Option (List ℕ)) (faults : ℕ) (decoder : Decoding) (d : Desk) (fault : Option Status) (read : ℕ) (h : List ℕ) : Type 0 where
-  pub codec_same : decoder.codec ≡ codec
-  pub stands : StandsFor decoder h
-  pub lined : Lined start faults d fault (units codec h)
-  pub count : read ≡ length h
+-- a cutter: its decoder, the text that waits, the first fault, and how many bytes were cut
+pub record Cutting : Type 0 where
+  pub decoding : Decoding
+  pub waiting : Waiting
+  pub fault : Option StreamFault
+  pub read : ℕ
 
--- the input gave the bytes `h`, which is all, and then perhaps a byte behind the limit
-pub record Cut (limit : ℕ) (reached : Reached) (h : List ℕ) (before after left : Option (List ℕ)) (faults : ℕ) : Type 0 where
-  pub behind : List ℕ
-  pub given : after ≡ grown before (h ++ behind)
-  pub within : length h ≤ limit
-  pub ended : reached ≡ End → (behind ≡ []) × (faults ≡ 0) × IfSome left (λ xs. xs ≡ [])
-  pub failed : reached ≡ Failed → (behind ≡ []) × (0 < faults)
-  pub limited : reached ≡ Limit → (length behind ≡ 1) × (length h ≡ limit) × (faults ≡ 0)
-  pub stopped : reached ≡ More → ⊥
+-- a printer that was just made, before a sink in this state
+abbrev pub unprinted : SinkState → Outlet
+unprinted w = record { text = []; failed = false; sink = w }
 
--- memory was refused when the input had given the bytes `h` and then `more`, and some lines of the units of `h` were written
-pub record Broke (codec : Codec) (limit : ℕ) (before after start written : Option (List ℕ)) : Type 0 where
+-- since the report's state was `w`, the lines of these units were printed and their first fault was noted
+pub record HasUnits (w : SinkState) (us : List FramingUnit) (c : Cutting) (v : SinkState) : Type 0 where
+  pub printed : PrintsTo (unit_lines us) (unprinted w) (outlet c.waiting v)
+  pub noted : c.fault ≡ first_fault us
+
+-- since the report's state was `w`, the bytes `h` were cut
+pub record HasCut (codec : Codec) (w : SinkState) (h : List ℕ) (c : Cutting) (v : SinkState) : Type 0 where
+  pub codec_same : c.decoding.codec ≡ codec
+  pub stands : StandsFor c.decoding h
+  pub found : HasUnits w (units codec h) c v
+  pub read : c.read ≡ length h
+
+-- these units are printed and noted next
+pub record TakesUnits (us : List FramingUnit) (c : Cutting) (v : SinkState) (d : Cutting) (u : SinkState) : Type 0 where
+  pub state : d ≡ record c { waiting = d.waiting; fault = fault_after c.fault us }
+  pub prints : PrintsTo (unit_lines us) (outlet c.waiting v) (outlet d.waiting u)
+
+-- the bytes of a block were cut next
+abbrev pub Cuts : List ℕ → Cutting → SinkState → Cutting → SinkState → Type 0
+Cuts bytes c v d u =
+    (codec : Codec) (w : SinkState) (h : List ℕ) → HasCut codec w h c v → HasCut codec w (h ++ bytes) d u
+
+-- what the end adds was printed and noted, where the reading stopped there
+abbrev pub CutsEnd : Stop → Cutting → SinkState → Cutting → SinkState → Type 0
+CutsEnd stop c v d u =
+    (codec : Codec) (w : SinkState) (h : List ℕ) → HasCut codec w h c v
+    → HasUnits w (units_read codec h (is_end stop)) d u
+
+-- a reading of at most `limit` bytes stopped behind the bytes `h`
+abbrev pub ReadsTo : ℕ → Stop → List ℕ → SourceState → SourceState → Type 0
+ReadsTo limit End h s t = Read h s t × IsAtEnd t × (length h ≤ limit)
+ReadsTo limit Failure h s t = ReadFailing h s t × (length h ≤ limit)
+ReadsTo limit Limit h s t = (x : ℕ) × Read (h ++ x ∷ []) s t × (length h ≡ limit)
+
+-- all that was read, until it stopped so, was cut
+abbrev pub CutsTo : Codec → ℕ → Stop → SourceState → SourceState → SinkState → Cutting → SinkState → Type 0
+CutsTo codec limit stop s t w c v = (h : List ℕ) × HasCut codec w h c v × ReadsTo limit stop h s t
+
+-- memory was refused when the bytes `h` were cut, and some more were read
+pub record Interrupted (codec : Codec) (limit : ℕ) (s t : SourceState) (w v : SinkState) : Type 0 where
   pub h : List ℕ
   pub more : List ℕ
-  pub given : after ≡ grown before (h ++ more)
+  pub read : Read (h ++ more) s t ⊎ ReadFailing (h ++ more) s t
   pub within : length (h ++ more) ≤ limit
-  pub done : List ℕ
-  pub waiting : List ℕ
-  pub lines : unit_lines (units codec h) ≡ done ++ waiting
-  pub wrote : written ≡ grown start done
+  pub part : ReportsPart (unit_lines (units codec h)) w v
 
--- the units of `h`, and those of the end where it was reached
-abbrev pub closed_units : Codec → Reached → List ℕ → List FramingUnit
-closed_units codec End h = ended codec h
-closed_units codec _ h = units codec h
+-- the status of a reading that stopped so
+abbrev pub status_at : Stop → Option StreamFault → Bool → Status
+status_at End fault report_failed = stream_or (if report_failed then status.Report else status.Fine) fault
+status_at Failure fault report_failed = status.Source
+status_at Limit fault report_failed = status.Limit
 
-abbrev pub closed_status : Reached → Bool → List FramingUnit → Status
-closed_status Failed failed us = status.Source
-closed_status Limit failed us = status.Limit
-closed_status _ failed us = stream_or (if failed then status.Report else status.Fine) us
+-- the report was closed behind the bytes `h`, where the reading stopped so
+abbrev pub Closes : Command → Stop → List ℕ → SinkState → SinkState → Status → Type 0
+Closes c stop h w v status =
+    Ends (c.text h (is_end stop)) (status_at stop (c.fault h (is_end stop))) w v status
 
--- a report of these units and of so many bytes was written, as far as the report and memory allowed
-pub record Closed (reached : Reached) (us : List FramingUnit) (count : ℕ) (start : Option (List ℕ)) (faults : ℕ) (s : Status) (written : Option (List ℕ)) (faults_after : ℕ) : Type 0 where
-  pub named : IsUnlessMemory (closed_status reached (nat_lt faults faults_after) us) s
-  pub whole : ReadsInput s → faults_after ≡ faults → written ≡ grown start (unit_lines us ++ end_line count)
-  pub prefix : WrotePrefix start (unit_lines us ++ end_line count) written
-  pub grew : faults ≤ faults_after
-
--- an input that had given nothing and had not failed was cut
-pub record CutAll (codec : Codec) (limit : ℕ) (s : Status) (before after left : Option (List ℕ)) (faults : ℕ) (start : Option (List ℕ)) (report_faults : ℕ) (written : Option (List ℕ)) (report_faults_after : ℕ) : Type 0 where
-  pub bytes : List ℕ
-  pub given : after ≡ grown before bytes
-  pub most : length bytes ≤ limit + 1
-  pub named : IsUnlessMemory (frames_status codec limit bytes faults (nat_lt report_faults report_faults_after)) s
-  pub whole : ReadsInput s → report_faults_after ≡ report_faults → written ≡ grown start (frames_text codec limit bytes faults)
-  pub prefix : WrotePrefix start (frames_text codec limit bytes faults) written
-  pub grew : ReadsInput s → report_faults ≤ report_faults_after
-  pub ended : ReadsToEnd s → IfSome left (λ xs. xs ≡ [])
+-- the report of all that was cut was closed
+abbrev pub ClosesCut : Stop → Cutting → SinkState → SinkState → Status → Type 0
+ClosesCut stop c v u status =
+    (codec : Codec) (w : SinkState) (h : List ℕ) → HasCut codec w h c v → Closes (framing codec) stop h w u status

@@ -1,8 +1,7 @@
-pub mod Words
 pub mod Text
-pub mod Frames
-pub mod Printing
-pub mod Reading
-pub mod Lines
+pub mod Runs
+pub mod Noting
+pub mod Framing
 pub mod Cutting
 pub mod Statuses
+pub mod Orders

@@ -1,7 +1,8 @@
 -- The numbers with which the program ends.
 use Rattle.std.specs.Prelude.{ℕ}
 use Rattle.relay_app.specs.declared.status.Status.{Status}
-use Rattle.relay_app.specs.declared.status.Status.TheVariants.{Fine, Usage, Stream, Source, NotOpened, Limit, Memory, Report}
+use Rattle.relay_app.specs.declared.status.Status.TheVariants.{Fine, Usage, Stream, Source, NotOpened}
+use Rattle.relay_app.specs.declared.status.Status.TheVariants.{Limit, Memory, Report}
 
 abbrev pub number_of : Status → ℕ
 number_of Fine = 0

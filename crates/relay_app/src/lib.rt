@@ -1,20 +1,19 @@
-//! The runs of the program over any host: the words, what is read and written, and the status.
+//! The runs of the program over any host: what is read and written, and the status.
 #![tactic(auto)]
 
 mod cutter;
-mod fill;
 mod framing;
-mod lines;
-mod printer;
 mod run;
 mod status;
-mod words;
+mod stream_fault;
+mod unit_lines;
 
 pub use frame_length::{Codec, FaultKind};
 pub use framing::frames;
+pub use relay_words::UsageKind;
 pub use run::run_plain;
 pub use status::Status;
-pub use words::UsageKind;
+pub use stream_fault::StreamFault;
 
 #[cfg(test)]
 mod tests;

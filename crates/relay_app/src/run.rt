@@ -1,37 +1,61 @@
-ghost use Rattle.std.specs.Prelude.{◌≡◌, ◌↔◌, ℕ, ◌<◌, ◌^◌, map};
+ghost use Rattle.std.specs.Prelude.{◌≡◌, ℕ, ◌≤◌, List, Some, Ok, true, map};
 ghost use Rattle.std.specs.String.{string_bytes};
-ghost use Rattle.relay_app.specs.Words.{Frames, Refused, order};
-ghost use Rattle.relay_app.specs.Frames.{FramesRun};
-ghost use Rattle.frame_grammar.specs.declared.codecs.Codec.{Codec};
-ghost use Rattle.relay_app.specs.declared.words.UsageKind.{UsageKind};
+ghost use Rattle.frame_head.specs.declared.codecs.Codec.{Codec};
+ghost use Rattle.relay_words.specs.Orders.{order};
+ghost use Rattle.relay_words.specs.declared.faults.UsageKind.{UsageKind};
+ghost use Rattle.relay_words.specs.declared.faults.WordFault.{WordFault};
+ghost use Rattle.relay_words.specs.declared.order.Order.{Order};
+ghost use Rattle.relay_app.specs.Framing.{framing, has_decoder};
+ghost use Rattle.relay_app.specs.Orders.{Refuses, refusal_of};
+ghost use Rattle.relay_app.specs.Runs.{RunsInput};
 
-use crate::framing::frames;
+use crate::framing::{frames, has_decoder};
 use crate::status::Status;
-use crate::words::read_words;
 use relay_ports::Host;
+use relay_words::{Order, UsageKind, WordFault, read_words};
 use std::alloc::Global;
 
-/// The size of a block that is read, in bytes.
-pub const BLOCK: usize = 65_536;
+// The command is good, and can't run yet.
+const NOT_BUILT: Status = Status::Usage {
+    word: 0,
+    kind: UsageKind::NotBuilt,
+};
 
-/// The most bytes that are read.
-pub const LIMIT: u64 = 1_099_511_627_776;
-
-/// Does what the words ask for: `frames CODEC` cuts standard input into frames, and writes a line for each to the report.
+/// Does what the words ask for: `frames` cuts its input into frames, and writes a line for each to the report.
 ///
-/// Of a list of words that isn't in the grammar it answers `Usage`, and leaves the host as it was.
+/// Of words that aren't in the grammar it answers `Usage` with the first bad one, and of a good command that can't
+/// run yet `Usage` with the kind `NotBuilt`; the host is then as it was. Where the words' memory is refused it answers
+/// `Memory`, and the host is as it was too. Reading the words is linear in them.
 pub fn run_plain<H: Host>(alloc: Global, host: &mut H, words: &[String]) -> Status
-    requires opening_faults { H.faults host.old < 2 ^ 63 }
-    requires report_faults { H.Output.faults (H.report host.old) < 2 ^ 63 }
-    ensures usage { (word : ℕ) (kind : UsageKind) → (result ≡ Status.Usage word kind) ↔ (order (map (λ w. string_bytes w) words.now) ≡ Refused word kind) }
-    ensures untouched { (word : ℕ) (kind : UsageKind) → result ≡ Status.Usage word kind → host.new ≡ host.old }
-    ensures frames { (codec : Codec) → order (map (λ w. string_bytes w) words.now) ≡ Frames codec → FramesRun codec LIMIT
-        (record { faults = H.faults host.old; refused = H.refused host.old; open_inputs = H.open_inputs host.old; reads = H.reads host.old; report_faults = H.Output.faults (H.report host.old); written = H.Output.written (H.report host.old) })
-        (record { faults = H.faults host.new; refused = H.refused host.new; open_inputs = H.open_inputs host.new; reads = H.reads host.new; report_faults = H.Output.faults (H.report host.new); written = H.Output.written (H.report host.new) })
-        result }
+    ensures usage { (word : ℕ) (kind : UsageKind) → result ≡ Status.Usage word kind
+        → refusal_of (order (map (λ w. string_bytes w) words.now)) ≡ Some (WordFault.Usage word kind) }
+    ensures untouched { (word : ℕ) (kind : UsageKind)
+        → refusal_of (order (map (λ w. string_bytes w) words.now)) ≡ Some (WordFault.Usage word kind)
+        → Refuses word kind host.old host.new result }
+    ensures frames { (codec : Codec) (block limit : ℕ) (input : List ℕ)
+        → order (map (λ w. string_bytes w) words.now) ≡ Ok (Order.Frames codec block limit input)
+        → has_decoder codec ≡ true
+        → RunsInput (framing codec) input limit (H.state host.old) (H.state host.new) result }
+    ensures report_faults { (H.state host.old).report.faults ≤ (H.state host.new).report.faults }
 {
-    match read_words(words) {
-        Ok(codec) => frames(alloc, host, codec, BLOCK, LIMIT),
-        Err(kind) => Status::Usage { word: 0, kind },
+    let order = match read_words(alloc, words) {
+        Ok(order) => order,
+        Err(WordFault::Usage { word, kind }) => return Status::Usage { word, kind },
+        Err(WordFault::NoMemory) => return Status::Memory,
+    };
+    match order {
+        Order::Frames {
+            codec,
+            block,
+            limit,
+            input,
+        } => {
+            if has_decoder(&codec) {
+                frames(alloc, host, codec, input.as_str(), block, limit)
+            } else {
+                NOT_BUILT
+            }
+        }
+        Order::Chain { .. } | Order::Relay { .. } | Order::Mill { .. } => NOT_BUILT,
     }
 }

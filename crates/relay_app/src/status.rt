@@ -1,10 +1,13 @@
 ghost use Rattle.std.specs.Prelude.{◌≡◌};
 
-use crate::words::UsageKind;
+use crate::stream_fault::StreamFault;
+use buffered_io::Stop;
 use frame_length::FaultKind;
+use relay_words::UsageKind;
 use std::fmt;
 
-/// How a run ended. Where several hold, it is the first of `Usage`, `NotOpened`, `Memory`, `Source`, `Limit`, `Stream` and `Report`.
+/// How a run ended. Where several hold, it is the first of `Usage`, `NotOpened`, `Memory`, `Source`, `Limit`, `Stream`
+/// and `Report`.
 #[derive(Clone, Copy, Debug, PartialEq, Eq)]
 pub enum Status {
     /// None of the others.
@@ -27,6 +30,20 @@ pub enum Status {
 
 impl Status {
     ghost use Rattle.relay_app.specs.Statuses.{number_of};
+    ghost use Rattle.relay_app.specs.Cutting.{status_at};
+
+    // The status of a run whose reading stopped so, with the first fault in what was read.
+    pub(crate) fn at_stop(stop: Stop, fault: Option<StreamFault>, report_failed: bool) -> Status
+        ensures { result ≡ status_at stop fault report_failed }
+    {
+        match (stop, fault) {
+            (Stop::Failure, _) => Status::Source,
+            (Stop::Limit, _) => Status::Limit,
+            (Stop::End, Some(StreamFault { at, kind })) => Status::Stream { at, kind },
+            (Stop::End, None) if report_failed => Status::Report,
+            (Stop::End, None) => Status::Fine,
+        }
+    }
 
     /// The number with which the program ends.
     pub fn number(&self) -> u8

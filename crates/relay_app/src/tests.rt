@@ -1,13 +1,13 @@
-ghost use Rattle.std.specs.Prelude.{◌≡◌, ◌≤◌, IfOk, IfSome};
-ghost use Rattle.frame_grammar.specs.Laws.{IsLength};
+ghost use Rattle.frame_head.specs.Laws.{IsLength};
 
 use super::*;
 use frame_length::check;
-use relay_ports::{MemHost, MemSink, MemSource};
+use relay_ports::{Host, MemHost, MemSink, MemSource};
 use std::alloc::{AllocError, Global};
 use std::test::Fail;
 
-// What a run is tried on and what it comes to: the size of the length field, the input, how many bytes it gives a call, which of its calls and of the report's fail, how many bytes the report takes, the limit, the status and the report.
+// What a run is tried on and what it comes to: the size of the length field, the input, how many bytes it gives a call,
+// which of its calls and of the report's fail, how many bytes the report takes, the limit, the status and the report.
 #[derive(Clone, Copy)]
 struct Try<'a> {
     field: u8,
@@ -50,12 +50,10 @@ fn host_of(
     input_fails: Vec<u64>,
     room: usize,
     report_fails: Vec<u64>,
-) -> Result<Option<MemHost>, AllocError>
-    ensures { IfOk result (λ o. IfSome o (λ h. (h.faults ≡ 0) × (h.report.faults ≡ 0))) }
-{
+) -> Result<Option<MemHost>, AllocError> {
     let source = MemSource::new(Vec::from_slice(alloc, input)?, most.max(1), input_fails);
     let mut host = MemHost::new(alloc);
-    host.add_in(alloc, "", source)?;
+    host.add_in("", source)?;
     match MemSink::new(alloc, room, report_fails) {
         Ok(sink) => {
             host.set_report(sink);
@@ -72,15 +70,13 @@ fn status_of(
     field: u8,
     block: usize,
     limit: u64,
-) -> Option<Status>
-    requires { (host.old.faults ≡ 0) × (host.old.report.faults ≡ 0) }
-{
+) -> Option<Status> {
     if block == 0 || block > 1_048_576 || limit > 1_099_511_627_776 {
         return None;
     }
     let codec = length_codec(field);
     match check(&codec) {
-        Ok(()) => Some(frames(alloc, host, codec, block, limit)),
+        Ok(()) => Some(frames(alloc, host, codec, "", block, limit)),
         Err(_) => None,
     }
 }
@@ -233,9 +229,9 @@ fn a_run_says_what_happened(rt: HostRuntime) -> Result<(), Fail> {
     Ok(())
 }
 
-fn words_of(alloc: Global, texts: &[&str]) -> Result<Vec<String>, AllocError> {
+fn words_of(alloc: Global, line: &str) -> Result<Vec<String>, AllocError> {
     let mut words = Vec::new(alloc);
-    for text in texts {
+    for text in line.split_whitespace() {
         let word = String::from_str(alloc, text)?;
         if words.push(word).is_err() {
             return Err(AllocError);
@@ -244,52 +240,120 @@ fn words_of(alloc: Global, texts: &[&str]) -> Result<Vec<String>, AllocError> {
     Ok(words)
 }
 
+// A host whose standard input and whose input `named` give these bytes.
+fn named_host(alloc: Global, stdin: &[u8], named: &[u8]) -> Result<Option<MemHost>, AllocError> {
+    let none = Vec::new(alloc);
+    let Some(mut host) = host_of(alloc, stdin, 100, none, 4096, Vec::new(alloc))? else {
+        return Ok(None);
+    };
+    let source = MemSource::new(Vec::from_slice(alloc, named)?, 100, Vec::new(alloc));
+    host.add_in("named", source)?;
+    Ok(Some(host))
+}
+
+// Words that are refused: the place of the bad word and its kind, and nothing is opened.
 #[test]
 fn words_that_are_bad_are_refused(rt: HostRuntime) -> Result<(), Fail> {
     let alloc = rt.alloc();
-    let tries: [(&[&str], UsageKind); 14] = [
-        (&[], UsageKind::Command),
-        (&["-x"], UsageKind::Command),
-        (&["frame", "length,field=1"], UsageKind::Command),
-        (&["relay", "a"], UsageKind::NotBuilt),
-        (&["frames"], UsageKind::NotBuilt),
-        (&["frames", "line"], UsageKind::NotBuilt),
-        (&["frames", "length"], UsageKind::NotBuilt),
-        (&["frames", "length,field=3,strip=1"], UsageKind::NotBuilt),
-        (&["frames", "length,field=1,strip=2"], UsageKind::NotBuilt),
-        (&["frames", "length,field=1", "x"], UsageKind::NotBuilt),
-        (&["frames", "length,field=01"], UsageKind::NotBuilt),
-        (&["frames", "length,field=1,field=1"], UsageKind::NotBuilt),
-        (&["frames", "length,strip=1"], UsageKind::NotBuilt),
-        (
-            &["frames", "length,field=1,strip=1,strip=1"],
-            UsageKind::NotBuilt,
-        ),
+    let tries = [
+        ("", 0, UsageKind::Command),
+        ("frame length,field=1", 0, UsageKind::Command),
+        ("frames", 1, UsageKind::Missing),
+        ("frames length,field=01", 1, UsageKind::Codec),
+        ("frames length,field=3,strip=1", 1, UsageKind::BadField),
+        ("frames length,field=1 --cap 1", 2, UsageKind::Option),
+        ("frames length,field=1 --block 0", 3, UsageKind::Value),
+        ("frames line x --limit y", 2, UsageKind::Extra),
+        ("relay line --in a --out raw a", 6, UsageKind::InOut),
+        // Good commands that can't run yet.
+        ("frames line", 0, UsageKind::NotBuilt),
+        ("frames delim,hex=0a", 0, UsageKind::NotBuilt),
+        ("frames fixed,size=3", 0, UsageKind::NotBuilt),
+        ("chain", 0, UsageKind::NotBuilt),
+        ("relay line --out raw a", 0, UsageKind::NotBuilt),
+        ("mill 3", 0, UsageKind::NotBuilt),
     ];
-    for (texts, kind) in tries {
-        let words = words_of(alloc, texts)?;
-        let status = run_plain(alloc, &mut MemHost::new(alloc), &words);
-        assert_eq!(rt; status, Status::Usage { word: 0, kind });
+    for (line, word, kind) in tries {
+        let words = words_of(alloc, line)?;
+        let mut host = named_host(alloc, TWO, TWO)?.ok_or("no room")?;
+        let status = run_plain(alloc, &mut host, &words);
+        assert_eq!(rt; status, Status::Usage { word, kind });
+        assert_eq!(rt; host.sink().bytes(), b"".as_slice());
+        assert!(rt; host.open_in("").is_ok() && host.open_in("named").is_ok());
     }
     Ok(())
 }
 
+// What good words make of a standard input of two frames and an input `named` of one.
 #[test]
 fn good_words_run(rt: HostRuntime) -> Result<(), Fail> {
     let alloc = rt.alloc();
-    let tries: [(&str, &[u8]); 3] = [
-        ("length,field=1,strip=1", WHOLE),
-        ("length,strip=1,field=1", WHOLE),
-        ("length,field=1", b"F 0 4 03616263\nF 4 2 0178\nend 6\n"),
+    let tries: [(&str, Status, &[u8]); 15] = [
+        ("length,field=1,strip=1", Status::Fine, WHOLE),
+        ("length,strip=1,field=1 --block 1", Status::Fine, WHOLE),
+        (
+            "length,field=1",
+            Status::Fine,
+            b"F 0 4 03616263\nF 4 2 0178\nend 6\n",
+        ),
+        ("length,field=1,strip=1 --limit 6", Status::Fine, WHOLE),
+        (
+            "length,field=1,strip=1 --limit 5",
+            Status::Limit,
+            b"F 0 3 616263\nend 5\n",
+        ),
+        (
+            "length,field=1,strip=1 --limit=5 --block=2",
+            Status::Limit,
+            b"F 0 3 616263\nend 5\n",
+        ),
+        ("length,field=1 --limit 0", Status::Limit, b"end 0\n"),
+        (
+            "length,field=1,strip=1 --limit 0 --in empty",
+            Status::Fine,
+            b"end 0\n",
+        ),
+        (
+            "length,field=1,strip=1 --in named",
+            Status::Fine,
+            b"F 0 1 79\nend 2\n",
+        ),
+        (
+            "--in=named --block 1 length,field=1,strip=1 --limit 2",
+            Status::Fine,
+            b"F 0 1 79\nend 2\n",
+        ),
+        (
+            "length,field=1,strip=1 --in named --limit 1",
+            Status::Limit,
+            b"end 1\n",
+        ),
+        (
+            "length,field=2,order=le,adjust=-1 --in named",
+            CUT_FIELD,
+            b"X 0 Cut\nend 2\n",
+        ),
+        (
+            "length,field=1 --in other",
+            Status::NotOpened { nth: 0 },
+            b"",
+        ),
+        ("length,field=1 --in nam", Status::NotOpened { nth: 0 }, b""),
+        (
+            "length,field=1,max=1",
+            Status::Stream {
+                at: 0,
+                kind: FaultKind::TooLong,
+            },
+            b"X 0 TooLong\nX 4 TooLong\nend 6\n",
+        ),
     ];
-    for (text, report) in tries {
-        let words = words_of(alloc, &["frames", text])?;
-        let none = Vec::new(alloc);
-        let mut host = host_of(alloc, TWO, 100, none, 4096, Vec::new(alloc))?.ok_or("no room")?;
-        assert_eq!(rt; run_plain(alloc, &mut host, &words), Status::Fine);
+    for (text, status, report) in tries {
+        let words = words_of(alloc, format!(in alloc; "frames {text}")?.as_str())?;
+        let mut host = named_host(alloc, TWO, b"\x01y")?.ok_or("no room")?;
+        host.add_in("empty", MemSource::new(Vec::new(alloc), 1, Vec::new(alloc)))?;
+        assert_eq!(rt; run_plain(alloc, &mut host, &words), status);
         assert_eq!(rt; host.sink().bytes(), report);
-        let status = run_plain(alloc, &mut MemHost::new(alloc), &words);
-        assert_eq!(rt; status, Status::NotOpened { nth: 0 });
     }
     Ok(())
 }

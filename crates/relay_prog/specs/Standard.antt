@@ -1,12 +1,29 @@
--- Standard input, as contracts see it: its name is empty, and it tells no content.
-use Rattle.std.specs.Prelude.{ℕ, Bool, true, false, List, [], ◌∷◌, None}
-use Rattle.relay_ports.specs.Told.{Read}
+-- What is known of the outside of a process, which tells no content.
+use Rattle.std.specs.Prelude.{ℕ, List, None}
+use Rattle.relay_ports.specs.declared.failures.NotOpened.{NotOpened}
+use Rattle.relay_ports.specs.declared.failures.NotOpened.TheVariants.{Failed, NoMemory}
+use Rattle.relay_ports.specs.declared.tally.Faults.{Faults}
+use Rattle.relay_ports.specs.Told.{counted}
+use Rattle.relay_ports.specs.States.{SourceState, SinkState, InputEnd, OutputEnd}
+use Rattle.relay_prog.specs.declared.os_output.Finishing.{Finishing}
 
--- what is known of a finished standard input: how many of its reads failed
-abbrev pub standard_read : ℕ → Read
-standard_read faults = record { name = []; given = None; left = None; faults = faults }
+-- a source of which only its counts are known
+abbrev pub untold_source : Faults → SourceState
+untold_source c = record { given = None; left = None; faults = c.faults; after = c.after }
 
--- the names of the inputs that are open
-abbrev pub open_names : Bool → List (List ℕ)
-open_names true = [] ∷ []
-open_names false = []
+-- a sink of which only its counts are known
+abbrev pub untold_sink : Faults → SinkState
+untold_sink c = record { written = None; faults = c.faults; after = c.after }
+
+-- what is known of an input that was finished
+abbrev pub input_end : List ℕ × Faults → InputEnd
+input_end e = record { name = e.0; state = untold_source e.1 }
+
+-- what is known of an output that was finished
+abbrev pub output_end : List ℕ × Finishing → OutputEnd
+output_end e = record { name = e.0; state = untold_sink e.1.counts; failed = e.1.failed }
+
+-- the count of openings and finishings that failed, after an opening that was refused
+abbrev pub faults_after : NotOpened → ℕ → ℕ
+faults_after Failed faults = counted faults
+faults_after NoMemory faults = faults

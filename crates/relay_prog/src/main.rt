@@ -2,6 +2,8 @@
 #![tactic(auto)]
 
 mod os_host;
+mod os_input;
+mod os_output;
 mod words;
 
 use os_host::OsHost;
@@ -12,7 +14,7 @@ fn main(rt: HostRuntime) -> ExitCode {
     let alloc = rt.alloc();
     let status = match words::words(&rt, alloc) {
         Ok(words) => {
-            let mut host = OsHost::new(alloc, rt.stdin(), rt.stdout());
+            let mut host = OsHost::new(rt, alloc, rt.stdin(), rt.stdout());
             run_plain(alloc, &mut host, &words)
         }
         Err(_) => Status::Memory,
@@ -22,3 +24,6 @@ fn main(rt: HostRuntime) -> ExitCode {
     }
     ExitCode::from(status.number())
 }
+
+#[cfg(test)]
+mod tests;

@@ -1,159 +1,154 @@
-ghost use Rattle.std.specs.Prelude.{◌≡◌, ℕ, ◌+◌, ◌<◌, ◌≤◌, Bool, true, false, IsTrue, List, [], ◌∷◌, ◌++◌, Option, Some, None, map, refl, IfSome, length, vec_len, vec_capacity};
+ghost use Rattle.std.specs.Prelude.{◌≡◌, ℕ, None, Some, IfOk, map, refl};
+ghost use Rattle.relay_prog.specs.Standard.{faults_after};
 
-use relay_ports::{Failed, Host, NotOpened, Sink, Source};
-use std::alloc::Global;
-use std::io::{ErrorKind, Read, Write};
-use std::rt::{Stdin, Stdout};
+use crate::os_input::OsInput;
+use crate::os_output::{Finishing, OsOutput};
+use relay_ports::{Failed, Faults, Host, Lender, Lent, NotOpened, Openings, one_more};
+use std::alloc::{AllocError, Global};
+use std::fs::File;
+use std::io::ErrorKind;
+use std::rt::{Files, Stdin, Stdout};
 
-/// Standard input, with a count of the reads that failed.
+/// The process's own standard input and output, and the files that it reads and makes.
 #[derive(Drop)]
-pub struct OsInput {
+pub struct OsHost<R: Files<File = File> + Drop> {
+    files: R,
     stdin: Stdin,
-    faults: u64,
-}
-
-impl Source for OsInput {
-    ghost faults = { λ s. s.faults };
-
-    ghost given = { λ _. None };
-
-    ghost left = { λ _. None };
-
-    fn read(&mut self, into: &mut [u8]) -> Result<usize, Failed> {
-        match read_uninterrupted(&mut self.stdin, into) {
-            Some(n) => Ok(n),
-            None => {
-                self.faults = self.faults.saturating_add(1);
-                Err(Failed)
-            }
-        }
-    }
-}
-
-// Reads once; a read that was interrupted is made again. Nothing stands for a failure.
-fn read_uninterrupted(stdin: &mut Stdin, into: &mut [u8]) -> Option<usize>
-    ensures { IfSome result (λ n. n ≤ length into.old) }
-{
-    for _ in 0..u64::MAX {
-        match stdin.read(into) {
-            Ok(n) => return Some(n),
-            Err(e) if e.kind() == ErrorKind::Interrupted => {}
-            Err(_) => return None,
-        }
-    }
-    None
-}
-
-/// Standard output, with a count of the writes that failed.
-#[derive(Drop)]
-pub struct OsOutput {
-    stdout: Stdout,
-    faults: u64,
-}
-
-impl Sink for OsOutput {
-    ghost faults = { λ s. s.faults };
-
-    ghost written = { λ _. None };
-
-    fn write(&mut self, piece: &[u8]) -> Result<usize, Failed> {
-        if piece.is_empty() {
-            return Ok(0);
-        }
-        match write_uninterrupted(&mut self.stdout, piece) {
-            Some(n) => Ok(n),
-            None => {
-                self.faults = self.faults.saturating_add(1);
-                Err(Failed)
-            }
-        }
-    }
-}
-
-// Writes once; a write that was interrupted is made again. Nothing stands for a failure, and a write that takes nothing is one.
-fn write_uninterrupted(stdout: &mut Stdout, piece: &[u8]) -> Option<usize>
-    ensures { IfSome result (λ n. (0 < n) × (n ≤ length piece.now)) }
-{
-    for _ in 0..u64::MAX {
-        match stdout.write(piece) {
-            Ok(0) => return None,
-            Ok(n) => return Some(n),
-            Err(e) if e.kind() == ErrorKind::Interrupted => {}
-            Err(_) => return None,
-        }
-    }
-    None
-}
-
-/// The process's own standard input and output.
-#[derive(Drop)]
-pub struct OsHost {
-    stdin: Stdin,
-    report: OsOutput,
     /// Whether standard input is open.
     is_open: bool,
-    /// How many reads failed, for each time that standard input was finished.
-    finished: Vec<u64>,
+    report: OsOutput,
+    inputs: Openings<Faults>,
+    outputs: Openings<Finishing>,
+    lender: Lender,
     faults: u64,
-    ghost room: { IsTrue is_open → vec_len finished < vec_capacity finished },
 }
 
-impl OsHost {
-    pub fn new(alloc: Global, stdin: Stdin, stdout: Stdout) -> OsHost
-        ensures { (result.faults ≡ 0) × (result.report.faults ≡ 0) }
+impl<R: Files<File = File> + Drop> OsHost<R> {
+    pub fn new(files: R, alloc: Global, stdin: Stdin, stdout: Stdout) -> OsHost<R>
+        ensures { (result.faults ≡ 0) × (result.report.counts.faults ≡ 0) × (result.report.counts.after ≡ 0) }
     {
         OsHost {
+            files,
             stdin,
-            report: OsOutput { stdout, faults: 0 },
             is_open: false,
-            finished: Vec::new(alloc),
+            report: OsOutput::stdout(stdout),
+            inputs: Openings::new(alloc),
+            outputs: Openings::new(alloc),
+            lender: Lender::new(alloc),
             faults: 0,
         }
     }
+
+    // What an opening that failed answers; where the outside refused it, that is counted.
+    fn refuse(&mut self, refused: NotOpened) -> NotOpened
+        ensures answer { result ≡ refused }
+        ensures counted { self.new ≡ record self.old { faults = faults_after refused self.old.faults } }
+    {
+        match refused {
+            NotOpened::Failed => self.faults = one_more(self.faults),
+            NotOpened::NoMemory => {}
+        }
+        refused
+    }
+
+    // The input of a name.
+    fn input_of(&self, name: &str) -> Result<OsInput, NotOpened>
+        ensures { IfOk result (λ i. (i.counts.faults ≡ 0) × (i.counts.after ≡ 0)) }
+    {
+        if !name.is_empty() {
+            return match File::open(&self.files, name) {
+                Ok(file) => Ok(OsInput::file(file)),
+                Err(e) => Err(not_opened(e.kind())),
+            };
+        }
+        if self.is_open {
+            return Err(NotOpened::Failed);
+        }
+        Ok(OsInput::stdin(self.stdin))
+    }
 }
 
-impl Host for OsHost {
-    ghost use Rattle.relay_prog.specs.Standard.{standard_read, open_names};
+// What the system's refusal of a file means.
+fn not_opened(kind: ErrorKind) -> NotOpened {
+    match kind {
+        ErrorKind::OutOfMemory => NotOpened::NoMemory,
+        _ => NotOpened::Failed,
+    }
+}
+
+impl<R: Files<File = File> + Drop> Host for OsHost<R> {
+    ghost use Rattle.relay_prog.specs.Standard.{input_end, output_end, untold_sink};
 
     type Input = OsInput;
 
     type Output = OsOutput;
 
-    ghost faults = { λ h. h.faults };
-
-    ghost refused = { λ _. None };
-
-    ghost open_inputs = { λ h. Some (open_names h.is_open) };
-
-    ghost reads = { λ h. map standard_read h.finished.items };
-
-    ghost report = { λ h. h.report };
+    ghost state = { λ h. record {
+      faults = h.faults;
+      refused = None;
+      open_inputs = Some h.inputs.open_names;
+      open_outputs = Some h.outputs.open_names;
+      inputs = map input_end h.inputs.finished;
+      outputs = map output_end h.outputs.finished;
+      lent = h.lender.out;
+      lends = h.lender.lends;
+      report = untold_sink h.report.counts;
+    } };
 
     ghost with_report = { λ h w. record h { report = w } };
 
-    ghost reported = { λ h w. refl };
+    ghost told = { λ h w. refl };
 
-    ghost apart = { λ h w. (refl, refl, refl, refl) };
-
-    // Standard input is the one input, and is open once at a time.
+    // The empty name is standard input, which is open once at a time; any other is a file that is there.
     fn open_in(&mut self, name: &str) -> Result<OsInput, NotOpened> {
-        if self.is_open || !name.is_empty() {
-            self.faults = self.faults.saturating_add(1);
-            return Err(NotOpened::Failed);
-        }
-        if self.finished.reserve(1).is_err() {
+        let input = match self.input_of(name) {
+            Ok(input) => input,
+            Err(refused) => return Err(self.refuse(refused)),
+        };
+        if self.inputs.open(name).is_err() {
             return Err(NotOpened::NoMemory);
         }
-        self.is_open = true;
-        Ok(OsInput {
-            stdin: self.stdin,
-            faults: 0,
-        })
+        if name.is_empty() {
+            self.is_open = true;
+        }
+        Ok(input)
     }
 
     fn finish_in(&mut self, name: &str, input: OsInput) {
-        self.is_open = false;
-        self.finished.push_reserved(input.faults);
+        if name.is_empty() {
+            self.is_open = false;
+        }
+        self.inputs.close(name, input.counts);
+    }
+
+    // An output is a file, which is made or emptied.
+    fn create_out(&mut self, name: &str) -> Result<OsOutput, NotOpened> {
+        let file = match File::create(&self.files, name) {
+            Ok(file) => file,
+            Err(e) => return Err(self.refuse(not_opened(e.kind()))),
+        };
+        if self.outputs.open(name).is_err() {
+            return Err(NotOpened::NoMemory);
+        }
+        Ok(OsOutput::file(file))
+    }
+
+    fn finish_out(&mut self, name: &str, output: OsOutput) -> Result<(), Failed> {
+        let finishing = output.finish();
+        self.outputs.close(name, finishing);
+        if finishing.failed {
+            self.faults = one_more(self.faults);
+            return Err(Failed);
+        }
+        Ok(())
+    }
+
+    fn lend(&mut self, size: usize) -> Result<Lent, AllocError> {
+        self.lender.lend(size)
+    }
+
+    fn take_back(&mut self, block: Lent) {
+        self.lender.take_back(block);
     }
 
     fn report(&mut self) -> &mut OsOutput {

@@ -1,21 +1,25 @@
-use Rattle.std.proofs.Common.{ap, ◌∙◌, subst, length}
-use Rattle.frame_grammar.specs.declared.codecs.Codec.{Codec}
-use Rattle.relay_app.specs.Cutting.{Broke, Closed, closed_units}
-use Rattle.relay_app.proofs.Blocks.{recode}
-use Rattle.relay_app.proofs.Ends.{cut_closed, cut_nothing, cut_broke}
+use Rattle.std.proofs.Common.{subst}
+use Rattle.frame_head.specs.declared.codecs.Codec.{Codec}
+use Rattle.relay_app.specs.Cutting.{Closes, Interrupted}
+use Rattle.relay_app.specs.Framing.{framing}
+use Rattle.relay_app.proofs.Inputs.{closing, recode, starved_at_once, starved_on}
 use Rattle.relay_app.proofs.framing.cut_input.Goals as goal
 
 pub returns-in_default : goal.returns-in_default
-returns-in_default g c = cut_nothing _ _ _ _ _ _ _
+returns-in_default g c = starved_at_once (framing c.args.codec) c.args.limit (g.S.Source.state c.args.input.now) (g.W.Sink.state c.args.report.now) c.requires.fresh
+
+pub cut_blocks-requires-clause-fresh : goal.cut_blocks-requires-clause-fresh
+cut_blocks-requires-clause-fresh g c = λ κs within. recode (c.in-Ok.ensures (g.W.Sink.state c.args.report.now))
 
 pub returns-in-Ok-cut_blocks : goal.returns-in-Ok-cut_blocks
 returns-in-Ok-cut_blocks g c =
     let cut = c.in-Ok-cut_blocks.ensures.cut in
-    let closed = c.close.ensures _ _ cut.0 (recode cut.1) in
-    let C : Codec → Type 0 = λ x. Closed c.in-Ok-cut_blocks.reached (closed_units x c.in-Ok-cut_blocks.reached cut.0) (length cut.0) (g.W.Sink.written c.args.report.now) (g.W.Sink.faults c.args.report.now) c.close.result (g.W.Sink.written c.close.new.report) (g.W.Sink.faults c.close.new.report) in
-    cut_closed c.args.codec c.args.limit c.in-Ok-cut_blocks.reached cut.0 cut.2 (subst C (cut.1.codec_same ∙ ap (λ d. d.codec) c.new-2.ensures) closed)
+    let C : Codec → Type 0 = λ x. Closes (framing x) c.in-Ok-cut_blocks.stop cut.0 (g.W.Sink.state c.args.report.now) (g.W.Sink.state c.close.new.report) c.close.result in
+    closing (framing c.args.codec) c.args.limit c.in-Ok-cut_blocks.stop cut.0 (g.S.Source.state c.args.input.now) (g.S.Source.state c.cut_blocks.new.input) c.requires.fresh cut.2
+    (subst C (c.in-Ok.ensures (g.W.Sink.state c.args.report.now)).codec_same (c.close.ensures c.in-Ok.cutter.decoding.codec (g.W.Sink.state c.args.report.now) cut.0 cut.1))
 
 pub returns : goal.returns
 returns g c =
-    let B : Codec → Type 0 = λ x. Broke x c.args.limit (g.S.Source.given c.args.input.now) (g.S.Source.given c.cut_blocks.new.input) (g.W.Sink.written c.args.report.now) (g.W.Sink.written c.cut_blocks.new.report) in
-    cut_broke _ _ _ _ c.stable_units.ensures c.requires.checked c.requires.kind (subst B (ap (λ d. d.codec) c.new-2.ensures) c.in-Err.ensures.broke)
+    let I : Codec → Type 0 = λ x. Interrupted x c.args.limit (g.S.Source.state c.args.input.now) (g.S.Source.state c.cut_blocks.new.input) (g.W.Sink.state c.args.report.now) (g.W.Sink.state c.cut_blocks.new.report) in
+    starved_on c.args.codec (g.S.Source.state c.args.input.now) c.stable_units.ensures c.requires.codec.0 c.requires.fresh
+    (subst I (c.in-Ok.ensures (g.W.Sink.state c.args.report.now)).codec_same c.in-Err.ensures.interrupted)

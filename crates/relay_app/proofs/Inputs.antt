@@ -1,0 +1,234 @@
+-- An input that is read, and what a run makes of it.
+use Rattle.std.proofs.Common.{◌≡◌, ℕ, ◌+◌, ◌<◌, ◌≤◌, Bool, true, false, List, [], ◌∷◌, ◌++◌, Option, Some, None, Result, Ok, Err, length, take, refl, sym, ap, ◌∙◌, subst, append_assoc, append-nil, arith, length-append, inl, inr}
+use Rattle.std.specs.Prelude.{◌⊎◌, nat_lt, nat_le, ◌==◌, ◌&&◌, IfSome, if◌then◌else◌}
+use Rattle.std.specs.Result.{OnErr}
+use Rattle.std.proofs.lemmas.Bool.{lt-ltb, le-ltb, le-leb, lt-leb, ne_eqb}
+use Rattle.std.proofs.lemmas.List.{take_all}
+use Rattle.std.proofs.Math.Seq.{take-append_seam}
+use Rattle.frame_head.specs.declared.codecs.Codec.{Codec}
+use Rattle.frame_head.specs.Checks.{fault_of}
+use Rattle.frame_head.specs.Laws.{StableUnits}
+use Rattle.frame_head.specs.Units.{units}
+use Rattle.relay_ports.specs.States.{SourceState, SinkState, IsFreshSource}
+use Rattle.relay_ports.specs.Told.{counted, grown}
+use Rattle.buffered_io.specs.declared.reading.Filled.{Filled}
+use Rattle.buffered_io.specs.declared.reading.Filled.TheVariants.{Full, Ended, Broken}
+use Rattle.buffered_io.specs.declared.reading.Stop.{Stop}
+use Rattle.buffered_io.specs.declared.reading.Stop.TheVariants.{End, Failure, Limit}
+use Rattle.buffered_io.specs.Reading.{Read, ReadFailing, ReadsBlock, Probes, IsAtEnd}
+use Rattle.buffered_io.proofs.Blocks.{read_both, read_failing, same_read, same_failing}
+use Rattle.buffered_io.proofs.Prints.{wrote_nothing}
+use Rattle.relay_app.specs.declared.status.Status.{Status}
+use Rattle.relay_app.specs.declared.status.Status.TheVariants as status
+use Rattle.relay_app.specs.Cutting.{Cutting, HasCut, ReadsTo, Interrupted, Closes, is_end, status_at}
+use Rattle.relay_app.specs.Framing.{framing}
+use Rattle.relay_app.specs.Runs.{Command, Completed, Starved, Reports, ReportsPart, ReadsInput, is_whole, none_left, status_of, stream_or, text_of}
+use Rattle.relay_app.specs.Text.{unit_lines}
+use Rattle.relay_app.proofs.Cuts.{part_reported, same_part, text_from}
+
+pub on_err : {T E : Type 0} (r : Result T E) {P : Type 0} → P → OnErr r P
+on_err (Ok x) {P} p = tt
+on_err (Err e) {P} p = p
+
+-- the codec under another name
+pub recode : {codec : Codec} {w : SinkState} {h : List ℕ} {c : Cutting} {v : SinkState} → HasCut codec w h c v → HasCut c.decoding.codec w h c v
+recode {codec} {w} {h} {c} {v} s = let P : Codec → Type 0 = λ x. HasCut x w h c v in subst P (sym s.codec_same) s
+
+-- all that was asked for was read, and then one byte more was asked for
+pub probed : {limit : ℕ} {h : List ℕ} {s : SourceState} (r t : SourceState) (stop : Stop) → Read h s r → length h ≡ limit → Probes stop r t → ReadsTo limit stop h s t
+probed {limit} {h} {s} r t End first full p = (same_read (append-nil h) (read_both first p.0), p.1, omega (arith, full))
+probed {limit} {h} {s} r t Failure first full p = (same_failing (append-nil h) (read_failing first p), omega (arith, full))
+probed {limit} {h} {s} r t Limit first full p = (p.0, read_both first p.1, full)
+
+-- what was read when memory was refused for a block of which these bytes came
+pub interrupted : {codec : Codec} {limit : ℕ} {w : SinkState} {h : List ℕ} {c : Cutting} {v u : SinkState} {s : SourceState} (r t : SourceState) (size : ℕ) (filled : Filled) (bytes : List ℕ)
+    → HasCut codec w h c v → u ≡ v → Read h s r → ReadsBlock filled size bytes r t → c.read + size ≤ limit → Interrupted codec limit s t w u
+interrupted {codec} {limit} {w} {h} {c} {v} {u} {s} r t size filled bytes cut same first block room =
+    let P : SinkState → Type 0 = λ x. ReportsPart (unit_lines (units codec h)) w x in
+    let come = came filled block in
+    record {
+      h = h;
+      more = bytes;
+      read = come.0;
+      within = omega (arith, length-append h bytes, cut.read, come.1, room);
+      part = subst P (sym same) (same_part (append-nil (unit_lines (units codec h))) (part_reported [] cut.found.printed));
+    }
+  where
+    came : (f : Filled) → ReadsBlock f size bytes r t → (Read (h ++ bytes) s t ⊎ ReadFailing (h ++ bytes) s t) × (length bytes ≤ size)
+    came Full b = (inl (read_both first b.0), omega (arith, b.1))
+    came Ended b = (inl (read_both first b.0), omega (arith, b.2))
+    came Broken b = (inr (read_failing first b.0), omega (arith, b.1))
+
+-- memory was refused before a block
+pub interrupted_before : {codec : Codec} {limit : ℕ} {w : SinkState} {h : List ℕ} {c : Cutting} {v : SinkState} {s r : SourceState}
+    → HasCut codec w h c v → Read h s r → c.read ≤ limit → Interrupted codec limit s r w v
+interrupted_before {codec} {limit} {w} {h} {c} {v} {s} {r} cut first within = record {
+  h = h;
+  more = [];
+  read = inl (same_read (sym (append-nil h)) first);
+  within = omega (arith, length-append h [], cut.read, within);
+  part = same_part (append-nil (unit_lines (units codec h))) (part_reported [] cut.found.printed);
+}
+
+-- what an input gave that had given nothing before
+told_of : (s t : SourceState) (bytes : List ℕ) → IsFreshSource s → t.given ≡ grown s.given bytes → IfSome t.given (λ xs. xs ≡ bytes)
+told_of s t bytes fresh is = by s.given fresh.0 t.given is
+  where
+    by : (a : Option (List ℕ)) → IfSome a (λ xs. xs ≡ []) → (b : Option (List ℕ)) → b ≡ grown a bytes → IfSome b (λ xs. xs ≡ bytes)
+    by None none b e = let P : Option (List ℕ) → Type 0 = λ o. IfSome o (λ xs. xs ≡ bytes) in subst P (sym e) tt
+    by (Some ys) none b e = let P : Option (List ℕ) → Type 0 = λ o. IfSome o (λ xs. xs ≡ bytes) in subst P (sym e) (ap (λ y. y ++ bytes) none)
+
+-- the whole input was read
+whole_at_end : (limit : ℕ) (given : List ℕ) (t : SourceState) → t.faults ≡ 0 → length given ≤ limit → IsAtEnd t → is_whole limit given t ≡ true
+whole_at_end limit given t none within at_end = by (t.faults == 0) (nat_le (length given) limit) t.left (rw none refl) (le-leb (length given) limit within) at_end
+  where
+    by : (a b : Bool) (left : Option (List ℕ)) → a ≡ true → b ≡ true → IfSome left (λ xs. xs ≡ []) → ((a && b) && none_left left) ≡ true
+    by a b None x y z = rw (x, y) refl
+    by a b (Some xs) x y z = rw (x, y, z) refl
+
+not_whole : (a b : Bool) (d : Bool) → (a ≡ false) ⊎ (b ≡ false) → ((a && b) && d) ≡ false
+not_whole false b d h = refl
+not_whole true false d h = refl
+not_whole true true d (inl h) = absurd (cc h)
+not_whole true true d (inr h) = absurd (cc h)
+
+-- the report and the status of a run are those of where its reading stopped
+record Agrees (c : Command) (limit : ℕ) (stop : Stop) (h given : List ℕ) (t : SourceState) : Type 0 where
+  pub text_is : c.text h (is_end stop) ≡ text_of c limit given t
+  pub status_is : (failed : Bool) → status_at stop (c.fault h (is_end stop)) failed ≡ status_of c limit given t failed
+  pub most : length given ≤ limit + 1
+  pub to_end : t.faults ≡ 0 → length given ≤ limit → IsAtEnd t
+
+same_text : (c : Command) (limit : ℕ) (whole : Bool) (h given : List ℕ) (t : SourceState) → take limit given ≡ h → is_whole limit given t ≡ whole → c.text h whole ≡ text_of c limit given t
+same_text c limit whole h given t read is = sym (ap (λ r. c.text r (is_whole limit given t)) read ∙ ap (λ b. c.text h b) is)
+
+same_fault : (c : Command) (limit : ℕ) (whole : Bool) (h given : List ℕ) (t : SourceState) → take limit given ≡ h → is_whole limit given t ≡ whole → c.fault h whole ≡ c.fault (take limit given) (is_whole limit given t)
+same_fault c limit whole h given t read is = sym (ap (λ r. c.fault r (is_whole limit given t)) read ∙ ap (λ b. c.fault h b) is)
+
+-- the first of the statuses
+not_first : (a b : Bool) (x y : Status) → a ≡ false → b ≡ false → x ≡ y → x ≡ (if a then status.Source else if b then status.Limit else y)
+not_first a b x y p q e = rw (p, q) e
+
+is_source : (a : Bool) (y : Status) → a ≡ true → status.Source ≡ (if a then status.Source else y)
+is_source a y e = rw e refl
+
+is_limit : (a b : Bool) (y : Status) → a ≡ false → b ≡ true → status.Limit ≡ (if a then status.Source else if b then status.Limit else y)
+is_limit a b y p q = rw (p, q) refl
+
+agrees_end : (c : Command) (limit : ℕ) (h : List ℕ) (t : SourceState) → t.faults ≡ 0 → length h ≤ limit → IsAtEnd t → Agrees c limit End h h t
+agrees_end c limit h t none within at_end =
+    let read : take limit h ≡ h = take_all limit h within in
+    let whole : is_whole limit h t ≡ true = whole_at_end limit h t none within at_end in
+    record {
+      text_is = same_text c limit true h h t read whole;
+      status_is = λ failed. not_first (nat_lt 0 t.faults) (nat_lt limit (length h)) _ _ (rw none refl) (le-ltb limit (length h) within) (ap (λ f. stream_or (if failed then status.Report else status.Fine) f) (same_fault c limit true h h t read whole));
+      most = omega (arith, within);
+      to_end = λ _ _. at_end;
+    }
+
+agrees_failure : (c : Command) (limit : ℕ) (h : List ℕ) (t : SourceState) → 0 < t.faults → length h ≤ limit → Agrees c limit Failure h h t
+agrees_failure c limit h t some within =
+    let read : take limit h ≡ h = take_all limit h within in
+    let whole : is_whole limit h t ≡ false = not_whole (t.faults == 0) (nat_le (length h) limit) (none_left t.left) (inl (ne_eqb t.faults 0 (λ q. omega (arith, q, some)))) in
+    let first : nat_lt 0 t.faults ≡ true = lt-ltb 0 t.faults some in
+    record {
+      text_is = same_text c limit false h h t read whole;
+      status_is = λ failed. is_source (nat_lt 0 t.faults) _ first;
+      most = omega (arith, within);
+      to_end = λ none _. absurd (omega (arith, none, some));
+    }
+
+agrees_limit : (c : Command) (limit : ℕ) (h : List ℕ) (x : ℕ) (t : SourceState) → t.faults ≡ 0 → length h ≡ limit → Agrees c limit Limit h (h ++ x ∷ []) t
+agrees_limit c limit h x t none full =
+    let long : length (h ++ x ∷ []) ≡ limit + 1 = omega (arith, length-append h (x ∷ []), full) in
+    let read : take limit (h ++ x ∷ []) ≡ h = ap (λ n. take n (h ++ x ∷ [])) (sym full) ∙ take-append_seam h (x ∷ []) in
+    let whole : is_whole limit (h ++ x ∷ []) t ≡ false = not_whole (t.faults == 0) (nat_le (length (h ++ x ∷ [])) limit) (none_left t.left) (inr (lt-leb (length (h ++ x ∷ [])) limit (omega (arith, long)))) in
+    record {
+      text_is = same_text c limit false h (h ++ x ∷ []) t read whole;
+      status_is = λ failed. is_limit (nat_lt 0 t.faults) (nat_lt limit (length (h ++ x ∷ []))) _ (rw none refl) (lt-ltb limit (length (h ++ x ∷ [])) (omega (arith, long)));
+      most = omega (arith, long);
+      to_end = λ _ within. absurd (omega (arith, within, long));
+    }
+
+-- a run that ends as its reading stopped
+run_from : {c : Command} {limit : ℕ} {stop : Stop} {h given : List ℕ} (s t : SourceState) {w v : SinkState} {status : Status}
+    → IsFreshSource s → t.given ≡ grown s.given given → t.after ≡ s.after → Agrees c limit stop h given t → Closes c stop h w v status → ReadsInput c limit t w v status
+run_from {c} {limit} {stop} {h} {given} s t {w} {v} {status} fresh gave after a closes = record {
+  given = given;
+  told = told_of s t given fresh gave;
+  most = a.most;
+  after = after ∙ fresh.2;
+  to_end = λ none within. inr (a.to_end none within);
+  ends = by closes;
+}
+  where
+    by : Closes c stop h w v status → Completed (text_of c limit given t) (status_of c limit given t) w v status ⊎ Starved (text_of c limit given t) w v status
+    by (inl done) = let R : List ℕ → Type 0 = λ x. Reports done.failed x w v in inl (record {
+      failed = done.failed;
+      reports = subst R a.text_is done.reports;
+      named = done.named ∙ a.status_is done.failed;
+    })
+    by (inr part) = inr (record { part = same_part a.text_is part.part; memory = part.memory })
+
+-- an input was read as far as it went, and the report was closed
+pub closing : (c : Command) (limit : ℕ) (stop : Stop) (h : List ℕ) (s t : SourceState) {w v : SinkState} {status : Status}
+    → IsFreshSource s → ReadsTo limit stop h s t → Closes c stop h w v status → ReadsInput c limit t w v status
+closing c limit End h s t {w} {v} {status} fresh r closes =
+    run_from s t fresh (ap (λ (x : SourceState). x.given) r.0.state) (r.0.after fresh.1)
+    (agrees_end c limit h t (ap (λ (x : SourceState). x.faults) r.0.state ∙ fresh.1) r.2 r.1) closes
+closing c limit Failure h s t {w} {v} {status} fresh r closes =
+    run_from s t fresh (ap (λ (x : SourceState). x.given) r.0.state) (r.0.after fresh.1)
+    (agrees_failure c limit h t (omega (arith, ap (λ (x : SourceState). x.faults) r.0.state ∙ ap counted fresh.1)) r.1) closes
+closing c limit Limit h s t {w} {v} {status} fresh r closes =
+    run_from s t fresh (ap (λ (x : SourceState). x.given) r.1.state) (r.1.after fresh.1)
+    (agrees_limit c limit h r.0 t (ap (λ (x : SourceState). x.faults) r.1.state ∙ fresh.1) r.2) closes
+
+-- memory was refused before the first read
+pub starved_at_once : (c : Command) (limit : ℕ) (t : SourceState) (w : SinkState) → IsFreshSource t → ReadsInput c limit t w w status.Memory
+starved_at_once c limit t w fresh = record {
+  given = [];
+  told = fresh.0;
+  most = omega arith;
+  after = fresh.2;
+  to_end = λ _ _. inl refl;
+  ends = inr (record {
+    part = record { front = []; lost = text_of c limit [] t; both = refl; failed = false; reports = wrote_nothing w };
+    memory = refl;
+  });
+}
+
+-- memory was refused later
+pub starved_on : (codec : Codec) {limit : ℕ} (s : SourceState) {t : SourceState} {w v : SinkState} → StableUnits → fault_of codec ≡ None
+    → IsFreshSource s → Interrupted codec limit s t w v → ReadsInput (framing codec) limit t w v status.Memory
+starved_on codec {limit} s {t} {w} {v} stable checked fresh i =
+    let given : List ℕ = i.h ++ i.more in
+    let read : take limit given ≡ given = take_all limit given i.within in
+    let longer = text_from codec i.h given (is_whole limit given t) (stable codec checked i.h i.more).1 in
+    record {
+      given = given;
+      told = told_of s t given fresh (gave i.read);
+      most = omega (arith, i.within);
+      after = silent i.read ∙ fresh.2;
+      to_end = λ _ _. inl refl;
+      ends = inr (record {
+        part = same_part (longer.1 ∙ same_text (framing codec) limit (is_whole limit given t) given given t read refl) (more longer.0);
+        memory = refl;
+      });
+    }
+  where
+    gave : Read (i.h ++ i.more) s t ⊎ ReadFailing (i.h ++ i.more) s t → t.given ≡ grown s.given (i.h ++ i.more)
+    gave (inl r) = ap (λ (x : SourceState). x.given) r.state
+    gave (inr r) = ap (λ (x : SourceState). x.given) r.state
+
+    silent : Read (i.h ++ i.more) s t ⊎ ReadFailing (i.h ++ i.more) s t → t.after ≡ s.after
+    silent (inl r) = r.after fresh.1
+    silent (inr r) = r.after fresh.1
+
+    more : (xs : List ℕ) → ReportsPart (unit_lines (units codec i.h) ++ xs) w v
+    more xs = record {
+      front = i.part.front;
+      lost = i.part.lost ++ xs;
+      both = ap (λ x. x ++ xs) i.part.both ∙ append_assoc i.part.front i.part.lost xs;
+      failed = i.part.failed;
+      reports = i.part.reports;
+    }

@@ -1,0 +1,34 @@
+ghost use Rattle.std.specs.Prelude.{◌≡◌, ◌∷◌, []};
+ghost use Rattle.frame_length.specs.Units.{unit_of};
+ghost use Rattle.relay_app.specs.Noting.{fault_after, first_fault};
+
+use frame_length::{FaultKind, FrameUnit};
+
+/// A fault in what was read.
+#[derive(Clone, Copy, Debug, PartialEq, Eq)]
+pub struct StreamFault {
+    /// Its offset in bytes, or the number of a script's line.
+    pub at: u64,
+    pub kind: FaultKind,
+}
+
+/// Notes a unit that is a fault, unless one was noted before.
+pub(crate) fn note(fault: &mut Option<StreamFault>, unit: &FrameUnit)
+    ensures { fault.new ≡ fault_after fault.old (unit_of unit.now ∷ []) }
+{
+    if fault.is_none() {
+        *fault = fault_of_unit(unit);
+    }
+}
+
+fn fault_of_unit(unit: &FrameUnit) -> Option<StreamFault>
+    ensures { result ≡ first_fault (unit_of unit.now ∷ []) }
+{
+    match unit {
+        FrameUnit::Frame { .. } => None,
+        FrameUnit::Fault { at, kind } => Some(StreamFault {
+            at: *at,
+            kind: *kind,
+        }),
+    }
+}

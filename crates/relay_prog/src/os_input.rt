@@ -1,0 +1,77 @@
+ghost use Rattle.std.specs.Prelude.{◌≡◌, ◌≤◌, IfSome, length};
+
+use relay_ports::{Failed, Faults, Source};
+use std::fs::File;
+use std::io::{ErrorKind, Read};
+use std::rt::Stdin;
+
+// Where the bytes come from.
+#[derive(Drop)]
+enum Origin {
+    Stdin(Stdin),
+    File(File),
+}
+
+/// Standard input or a file, with a count of the reads that failed. It tells no bytes.
+#[derive(Drop)]
+pub struct OsInput {
+    origin: Origin,
+    pub counts: Faults,
+}
+
+impl OsInput {
+    pub fn stdin(stdin: Stdin) -> OsInput
+        ensures { (result.counts.faults ≡ 0) × (result.counts.after ≡ 0) }
+    {
+        OsInput {
+            origin: Origin::Stdin(stdin),
+            counts: Faults::NONE,
+        }
+    }
+
+    pub fn file(file: File) -> OsInput
+        ensures { (result.counts.faults ≡ 0) × (result.counts.after ≡ 0) }
+    {
+        OsInput {
+            origin: Origin::File(file),
+            counts: Faults::NONE,
+        }
+    }
+}
+
+impl Source for OsInput {
+    ghost use Rattle.relay_prog.specs.Standard.{untold_source};
+
+    ghost state = { λ s. untold_source s.counts };
+
+    fn read(&mut self, into: &mut [u8]) -> Result<usize, Failed> {
+        let read = match &mut self.origin {
+            Origin::Stdin(stdin) => read_uninterrupted(stdin, into),
+            Origin::File(file) => read_uninterrupted(file, into),
+        };
+        match read {
+            Some(n) => {
+                self.counts.count_call();
+                Ok(n)
+            }
+            None => {
+                self.counts.count_failure();
+                Err(Failed)
+            }
+        }
+    }
+}
+
+// Reads once; a read that was interrupted is made again. Nothing stands for a failure.
+fn read_uninterrupted<R: Read>(reader: &mut R, into: &mut [u8]) -> Option<usize>
+    ensures { IfSome result (λ n. n ≤ length into.old) }
+{
+    for _ in 0..u64::MAX {
+        match reader.read(into) {
+            Ok(n) => return Some(n),
+            Err(e) if e.kind() == ErrorKind::Interrupted => {}
+            Err(_) => return None,
+        }
+    }
+    None
+}

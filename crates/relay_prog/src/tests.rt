@@ -1,0 +1,60 @@
+use crate::os_host::OsHost;
+use relay_ports::{Failed, Host, NotOpened, Sink, Source};
+use std::test::Fail;
+
+#[test]
+fn inputs_are_standard_input_and_files(rt: HostRuntime) -> Result<(), Fail> {
+    let mut host = OsHost::new(rt, rt.alloc(), rt.stdin(), rt.stdout());
+    let wanted = [
+        ("no_such_file", Some(NotOpened::Failed)),
+        ("/dev/null/none", Some(NotOpened::Failed)),
+        ("", None),
+        ("", Some(NotOpened::Failed)),
+        ("/dev/null", None),
+        ("/dev/null", None),
+    ];
+    for (name, refused) in wanted {
+        assert_eq!(rt; host.open_in(name).err(), refused);
+    }
+    // A folder can be opened, and not read.
+    let files = [
+        ("/dev/zero", Ok(4)),
+        ("/dev/null", Ok(0)),
+        ("/", Err(Failed)),
+    ];
+    for (name, answer) in files {
+        let mut input = host.open_in(name).ok().ok_or("not opened")?;
+        let mut block = [b'#'; 4];
+        assert_eq!(rt; input.read(&mut block), answer);
+        let first = if answer == Ok(4) { 0 } else { b'#' };
+        assert_eq!(rt; block[0], first);
+        assert_eq!(rt; input.counts.faults, u64::from(answer.is_err()));
+    }
+    Ok(())
+}
+
+#[test]
+fn outputs_are_files(rt: HostRuntime) -> Result<(), Fail> {
+    let mut host = OsHost::new(rt, rt.alloc(), rt.stdin(), rt.stdout());
+    let refused = host.create_out("/dev/null/none").err();
+    assert_eq!(rt; refused, Some(NotOpened::Failed));
+    let wanted = [("/dev/null", Ok(4)), ("/dev/full", Err(Failed))];
+    for (name, taken) in wanted {
+        let mut output = host.create_out(name).ok().ok_or("not made")?;
+        assert_eq!(rt; output.write(b""), Ok(0));
+        assert_eq!(rt; output.write(b"four"), taken);
+        assert!(rt; !output.finish().failed);
+    }
+    Ok(())
+}
+
+#[test]
+fn blocks_have_zeros_and_new_numbers(rt: HostRuntime) -> Result<(), Fail> {
+    let mut host = OsHost::new(rt, rt.alloc(), rt.stdin(), rt.stdout());
+    let first = host.lend(2)?;
+    assert_eq!(rt; first.number, 0);
+    assert_eq!(rt; first.bytes.as_slice(), [0u8, 0].as_slice());
+    let second = host.lend(1)?;
+    assert_eq!(rt; second.number, 1);
+    Ok(())
+}
