@@ -61,5 +61,10 @@ impl Scanner for AnyScanner {
         }
     }
 
-    ghost checked = { elim [ Length s ↦ λ r seen. seen.0 | Fixed s ↦ λ r seen. seen.0 | Line s ↦ λ r seen. seen.0 | Delim s ↦ λ r seen. seen.0 ] };
+    ghost checked = { elim [
+      | Length s ↦ λ r seen. seen.0
+      | Fixed s ↦ λ r seen. seen.0
+      | Line s ↦ λ r seen. seen.0
+      | Delim s ↦ λ r seen. seen.0
+    ] };
 }
