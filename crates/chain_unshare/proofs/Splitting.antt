@@ -1,28 +1,28 @@
 -- Chains that are split.
-use Rattle.std.proofs.Common.{◌≡◌, ◌⊎◌, ℕ, suc, zero, ◌+◌, ◌-◌, ◌<◌, ◌≤◌, List, [], ◌∷◌, ◌++◌, Option, Some, None, length, take, drop, refl, sym, ap, subst, ◌∙◌, append_assoc, arith, inl, inr, length-append, length-drop, length-take-le, slice_get, slice_set, Result, Ok, Err, IfOk}
+use Rattle.std.proofs.Common.{◌≡◌, ℕ, suc, zero, ◌+◌, ◌-◌, ◌<◌, ◌≤◌, List, [], ◌∷◌, ◌++◌, Option, Some, length, take, drop, refl, sym, ap, subst, ◌∙◌, append_assoc, arith, inl, inr, length-append, length-drop, length-take-le, slice_get, slice_set, Result, Ok, Err, IfOk}
 use Rattle.std.proofs.lemmas.List.{append-nil, take-append-drop, take_all, drop-append-le, take-append-le, take_at, drop_at}
 use Rattle.std.proofs.Math.Seq.{drop-nil}
 use Rattle.buffer_model.specs.Share.{Share, own}
-use Rattle.buffer_model.specs.Segment.{Segment, bytes_of, trimmed_start, trimmed_end, shared_as, between_rooms}
-use Rattle.buffer_model.specs.Stake.{Stake, held, Keeps, KeepsTotals, KeepsTotalsBelow}
-use Rattle.buffer_model.specs.Minted.{Numbers, Adds, AddsAtMost}
+use Rattle.buffer_model.specs.Segment.{Segment, bytes_of, trimmed_start, trimmed_end, between_rooms}
+use Rattle.buffer_model.specs.Stake.{Stake, Keeps, KeepsTotalsBelow}
+use Rattle.buffer_model.specs.Minted.{Numbers, AddsAtMost}
 use Rattle.buffer_model.specs.Clones.{Clones}
-use Rattle.buffer_model.proofs.Totals.{keeps_same, keeps_equal, keeps_then, keeps_below, keeps_below_then, keeps-append, keeps_made}
+use Rattle.buffer_model.proofs.Totals.{keeps_same, keeps_equal, keeps_below, keeps-append, keeps_made}
 use Rattle.buffer_model.proofs.Minted.{adds_none, adds_at_most}
 use Rattle.buffer_model.proofs.Clones.{clone_keeps_totals}
 use Rattle.std.specs.List.{AllZip}
 use Rattle.iobuf_chain.specs.Accounts.{held_by, answered}
 use Rattle.iobuf_chain.specs.Shares.{IsEmptyChain, Regains, Rejoins}
 use Rattle.iobuf_chain.proofs.Lists.{drop_there, take-set, drop-set, set-set}
-use Rattle.iobuf_chain.proofs.Bytes.{bytes_of-append, sum-append, sum_more, sum_within, sum-set, sum-cut}
-use Rattle.iobuf_chain.proofs.Accounts.{swaps_nodes, same_nodes, then_nodes, held_by-append}
+use Rattle.iobuf_chain.proofs.Bytes.{bytes_of-append, sum_more, sum_within, sum-set, sum-cut}
+use Rattle.iobuf_chain.proofs.Accounts.{swaps_nodes, same_nodes, held_by-append}
 use Rattle.iobuf_chain.proofs.Rejoined.{regains_keep, regains_at}
-use Rattle.iobuf_chain.specs.Copies.{WithData, IsHeavy, IsStout}
-use Rattle.iobuf_chain.proofs.Copied.{each_append, each_before, each_behind, each_map, heavy_is_stout, cut_of_heavy}
+use Rattle.iobuf_chain.specs.Copies.{HasData, HasNumber, WithData, CopiesNoData, IsHeavy, IsStout, IsShareable}
+use Rattle.iobuf_chain.proofs.Copied.{each_append, each_before, each_behind, each_map, own_numbers, clone_number, heavy_is_stout, cut_of_heavy}
 use Rattle.iobuf_chain.proofs.TrimmedEnds.{drop-joined, take-joined}
 use Rattle.chain_unshare.specs.Splits.{StopsAt, IsRun, IsSide, SplitsBetween, SplitsNode, SplitsAt}
 
-nothing_left : {X : Type 0} (n : ℕ) (xs : List X) → length xs ≤ n → drop n xs ≡ []
+pub nothing_left : {X : Type 0} (n : ℕ) (xs : List X) → length xs ≤ n → drop n xs ≡ []
 nothing_left n [] h = drop-nil n
 nothing_left zero (x ∷ xs) h = absurd (omega arith)
 nothing_left (suc n) (x ∷ xs) h = nothing_left n xs (omega arith)
@@ -140,6 +140,12 @@ module _ {O : Type 0} where
             )
       ]
 
+  pub splits_join : (n : ℕ) (old new : Numbers) (before front rest : List (Segment O)) → SplitsAt n old new before front rest
+      → bytes_of front ++ bytes_of rest ≡ bytes_of before
+  splits_join n old new before front rest is =
+      let both = splits_bytes n old new before front rest is in
+      ap (λ bs. bs ++ bytes_of rest) both.0 ∙ ap (λ bs. take n (bytes_of before) ++ bs) both.1 ∙ take-append-drop n (bytes_of before)
+
   side_keeps : (old new : Numbers) (nodes side : List (Segment O)) → IsSide old new nodes side → KeepsTotalsBelow (length old) (held_by nodes) (held_by side)
   side_keeps old new nodes side is = elim is [
     | inl same ↦ keeps_below (length old) _ _ (same_nodes _ _ (sym same.0))
@@ -157,7 +163,7 @@ module _ {O : Type 0} where
     | inr none ↦ let e = none.1.mint.1 in omega (arith, e)
   ]
 
-  keeps_trans : (n : ℕ) (xs ys zs : List (Stake O)) → Keeps xs ys n → Keeps ys zs n → Keeps xs zs n
+  pub keeps_trans : (n : ℕ) (xs ys zs : List (Stake O)) → Keeps xs ys n → Keeps ys zs n → Keeps xs zs n
   keeps_trans n xs ys zs p q = record { total = q.total ∙ p.total; way = λ kind is. q.way kind (p.way kind is) }
 
   -- two parts that keep totals, and change places
@@ -311,5 +317,39 @@ module _ {O : Type 0} where
               subst S (sym s.front_is)
                   (each_append _ run (trimmed_end (length s.node.window - k) s.clone ∷ []) (each_map _ _ run (λ x h d. heavy_is_stout x (h d)) first) ((λ some. cut.0), tt)),
               subst R (sym s.rest_is) ((λ some. cut.1), both.1),
+            )
+      ]
+
+  numbered : (had : List (Segment O)) (s t : Share O) → t.number ≡ s.number → HasNumber s.number had → HasNumber t.number had
+  numbered had s t e h = let P : Option ℕ → Type 0 = λ n. HasNumber n had in subst P (sym e) h
+
+  -- where each node with data can be shared, none of its data is copied
+  pub splits_copy_nothing : (n : ℕ) (old new : Numbers) (before front rest : List (Segment O)) → SplitsAt n old new before front rest
+      → WithData IsShareable before → CopiesNoData before front × CopiesNoData before rest
+  splits_copy_nothing n old new before front rest is may =
+      let run : List (Segment O) = is.run in
+      let past : List (Segment O) = is.past in
+      let Q : Segment O → Type 0 = λ s. HasNumber s.share.number before in
+      let R : List (Segment O) → Type 0 = λ xs. CopiesNoData before xs in
+      let M : List (Segment O) → Type 0 = λ xs. WithData IsShareable xs in
+      let all : CopiesNoData before (run ++ past) = subst R is.is_run.parts (own_numbers before) in
+      let first : CopiesNoData before run = each_before _ run past all in
+      let second : CopiesNoData before past = each_behind _ run past all in
+      elim is.parts [
+        | inl (e, between) ↦ (
+          side_with Q Q old between.mid run front (λ s h. h) between.front_side first,
+          side_with Q Q between.mid new past rest (λ s h. h) between.rest_side second,
+        )
+        | inr (more, s) ↦
+            let k : ℕ = n - length (bytes_of run) in
+            let low : k < length s.node.window = let P : List (Segment O) → Type 0 = λ ys. StopsAt k ys in subst P s.past_is is.is_run.longest in
+            let some : HasData s.node = omega (arith, low) in
+            let can : WithData IsShareable (s.node ∷ s.behind) = subst M s.past_is (each_behind _ run past (subst M is.is_run.parts may)) in
+            let both : CopiesNoData before (s.node ∷ s.behind) = subst R s.past_is second in
+            let same = clone_number old new s.node s.left s.clone s.clones (can.0 some) in (
+              subst R (sym s.front_is)
+                  (each_append _ run (trimmed_end (length s.node.window - k) s.clone ∷ []) first
+                  ((λ data_is. numbered before s.node.share s.clone.share same.0 (both.0 some)), tt)),
+              subst R (sym s.rest_is) ((λ data_is. numbered before s.node.share s.left.share same.1 (both.0 some)), both.1),
             )
       ]

@@ -1,1 +1,5 @@
 pub mod Splits
+pub mod Backs
+pub mod Unshares
+pub mod Joins
+pub mod Laws

@@ -1,7 +1,6 @@
 -- Chains that are split: the first bytes leave, as a chain of their own.
-use Rattle.std.specs.Prelude.{◌≡◌, ℕ, ◌+◌, ◌-◌, ◌<◌, ◌≤◌, List, [], ◌∷◌, ◌++◌, length, ◌⊎◌}
-use Rattle.buffer_model.specs.Share.{Share}
-use Rattle.buffer_model.specs.Segment.{Segment, bytes_of, trimmed_start, trimmed_end, shared_as}
+use Rattle.std.specs.Prelude.{◌≡◌, ℕ, ◌-◌, ◌<◌, ◌≤◌, List, [], ◌∷◌, ◌++◌, length, ◌⊎◌}
+use Rattle.buffer_model.specs.Segment.{Segment, bytes_of, trimmed_start, trimmed_end}
 use Rattle.buffer_model.specs.Minted.{Numbers}
 use Rattle.buffer_model.specs.Clones.{Clones}
 use Rattle.iobuf_chain.specs.Shares.{IsEmptyChain}

@@ -5,7 +5,7 @@ ghost use Rattle.buffer_model.specs.Segment.{Segment, bytes_of};
 ghost use Rattle.buffer_model.specs.Minted.{AddsAtMost};
 ghost use Rattle.buffer_model.specs.Stake.{KeepsTotalsBelow};
 ghost use Rattle.iobuf_chain.specs.Accounts.{held_by, answered};
-ghost use Rattle.iobuf_chain.specs.Copies.{IsHeavy, IsStout, WithData};
+ghost use Rattle.iobuf_chain.specs.Copies.{CopiesNoData, IsHeavy, IsShareable, IsStout, WithData};
 ghost use Rattle.iobuf_chain.specs.Cuts.{IsShortBeyond};
 ghost use Rattle.iobuf_chain.specs.Shares.{Regains, IsEmptyChain};
 ghost use Rattle.chain_unshare.specs.Splits.{StopsAt, IsRun, SplitsBetween, SplitsNode, SplitsAt};
@@ -33,6 +33,8 @@ pub fn split<'a, O: Release>(
     ensures mint { AddsAtMost 1 mint.old mint.new }
     ensures totals { KeepsTotalsBelow (length mint.old) (held_by c.old) (held_by (c.new ++ answered result)) }
     ensures heavy { WithData IsHeavy c.old → IfOk result (λ front. WithData IsStout front × WithData IsHeavy c.new) }
+    ensures copies { WithData IsShareable c.old
+        → IfOk result (λ front. CopiesNoData c.old front × CopiesNoData c.old c.new) }
 {
     let had = c.length();
     if had < n {
@@ -108,6 +110,30 @@ fn empty<'a, O: Release>(alloc: Global, mint: &mut Mint) -> Result<Chain<'a, O>,
 
 // The first i nodes leave, with a clone of the next behind them that has its first k bytes.
 fn split_node<'a, O: Release>(
+    c: &mut Chain<'a, O>,
+    alloc: Global,
+    i: usize,
+    k: usize,
+    mint: &mut Mint,
+) -> Result<Chain<'a, O>, AllocError>
+    requires there { i < length c.old }
+    requires within { StopsAt k (drop i c.old) }
+    ensures parts { IfOk result (λ front. SplitsNode k mint.old mint.new (take i c.old) (drop i c.old) front c.new) }
+    ensures refused { OnErr result (AllZip Regains c.old c.new) }
+    ensures mint { AddsAtMost 1 mint.old mint.new }
+    ensures totals { KeepsTotalsBelow (length mint.old) (held_by c.old) (held_by (c.new ++ answered result)) }
+{
+    if i == 0 {
+        return match c.cut_first(alloc, k, mint) {
+            Ok(front) => Ok(front),
+            Err(refused) => Err(refused),
+        };
+    }
+    split_later(c, alloc, i, k, mint)
+}
+
+// The same where nodes stand before it.
+fn split_later<'a, O: Release>(
     c: &mut Chain<'a, O>,
     alloc: Global,
     i: usize,

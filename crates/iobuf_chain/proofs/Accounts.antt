@@ -16,7 +16,7 @@ module _ {O : Type 0} where
   held_by-append (x ∷ xs) ys = ap (λ hs. held x.share ∷ hs) (held_by-append xs ys)
 
   -- two parts behind others change places
-  swaps_stakes : (xs ys zs : List (Stake O)) → KeepsTotals (xs ++ (ys ++ zs)) (xs ++ (zs ++ ys))
+  pub swaps_stakes : (xs ys zs : List (Stake O)) → KeepsTotals (xs ++ (ys ++ zs)) (xs ++ (zs ++ ys))
   swaps_stakes xs ys zs n = record {
     total =
         let a = total-append n xs (ys ++ zs) in
@@ -64,6 +64,19 @@ module _ {O : Type 0} where
       then_nodes _ _ _ (same_nodes _ _ (parts_of i j old h))
       (then_nodes _ _ _ (swaps_nodes (take i old) (between i j old) (drop j old))
       (same_nodes _ _ (sym (append_assoc (take i old) (drop j old) (between i j old)) ∙ ap (λ ys. ys ++ between i j old) (sym left) ∙ ap (λ ys. new ++ ys) (sym out))))
+
+  -- the first nodes leave, with another behind them
+  pub cut_keeps : (i : ℕ) (old new cut : List (Segment O)) (last : Segment O) → cut ≡ take i old ++ last ∷ [] → new ≡ drop i old
+      → KeepsTotals (held_by (old ++ last ∷ [])) (held_by (new ++ cut))
+  cut_keeps i old new cut last out left =
+      let front : List (Segment O) = take i old in
+      let back : List (Segment O) = drop i old in
+      let end : List (Segment O) = last ∷ [] in
+      then_nodes _ _ _ (same_nodes _ _ (ap (λ xs. xs ++ end) (sym (take-append-drop i old)) ∙ append_assoc front back end))
+      (then_nodes _ _ _ (swaps_nodes front back end)
+      (then_nodes _ _ _ (same_nodes _ _ (sym (append_assoc front end back)))
+      (then_nodes _ _ _ (swaps_nodes [] (front ++ end) back)
+      (same_nodes _ _ (ap (λ ys. ys ++ (front ++ end)) (sym left) ∙ ap (λ ys. new ++ ys) (sym out))))))
 
   -- one node in the place of another
   swapped_apart : (i : ℕ) (xs : List (Segment O)) (x y : Segment O) → slice_get xs i ≡ Some x

@@ -1,10 +1,10 @@
 -- Nodes that share their storages.
-use Rattle.std.proofs.Common.{◌≡◌, ◌⊎◌, ℕ, suc, zero, ◌+◌, ◌-◌, ◌*◌, ◌^◌, ◌<◌, ◌≤◌, min, max, List, [], ◌∷◌, ◌++◌, Option, Some, None, IsSome, length, take, drop, refl, sym, ap, subst, ◌∙◌, arith, inl, inr, length-drop}
-use Rattle.share_count.specs.Weights.{full, part}
-use Rattle.buffer_model.specs.Share.{Share, IsManaged, rest_of, part_of}
-use Rattle.buffer_model.specs.Segment.{Segment, shared_as, trimmed_start, trimmed_end}
-use Rattle.buffer_model.specs.Minted.{Numbers, Adds, IsNew}
-use Rattle.buffer_model.specs.Clones.{Splits, Renews, Clones}
+use Rattle.std.proofs.Common.{◌≡◌, ℕ, ◌+◌, ◌-◌, ◌<◌, ◌≤◌, List, [], ◌∷◌, ◌++◌, Option, IsSome, length, drop, refl, sym, ap, subst, ◌∙◌, arith, inl, inr, length-drop}
+use Rattle.share_count.specs.Weights.{part}
+use Rattle.buffer_model.specs.Share.{Share}
+use Rattle.buffer_model.specs.Segment.{Segment, trimmed_start}
+use Rattle.buffer_model.specs.Minted.{Numbers}
+use Rattle.buffer_model.specs.Clones.{Clones}
 use Rattle.iobuf_chain.specs.Lists.{Each}
 use Rattle.iobuf_chain.specs.Shares.{ClonesEach}
 use Rattle.iobuf_chain.specs.Copies.{HasData, HasNumber, WithData, CopiesNoData, IsHeavy, IsStout, IsShareable}

@@ -6,3 +6,7 @@ pub mod GivenBack
 pub mod Rejoined
 pub mod Shared
 pub mod Copied
+pub mod Absorbed
+pub mod Moved
+pub mod Ranged
+pub mod FirstCuts

@@ -1,8 +1,10 @@
 -- Lists that are turned and taken apart.
-use Rattle.std.proofs.Common.{◌≡◌, ℕ, suc, zero, ◌+◌, ◌-◌, ◌<◌, ◌≤◌, List, [], ◌∷◌, ◌++◌, length, take, drop, refl, sym, ap, ◌∙◌, append_assoc, arith, add-one, length-append, length-drop, length-take-le, slice_set, slice_get, Option, Some, None, subst}
+use Rattle.std.proofs.Common.{◌≡◌, ℕ, suc, zero, ◌+◌, ◌-◌, ◌<◌, ◌≤◌, List, [], ◌∷◌, ◌++◌, length, take, drop, refl, sym, ap, ◌∙◌, append_assoc, arith, add-one, length-append, length-drop, length-take-le, slice_set, slice_get, Some, subst}
 use Rattle.std.proofs.lemmas.List.{take-append-drop, drop-append-le, take-append-le, drop-drop, drop_at, take_at, take_all}
 use Rattle.std.proofs.lemmas.Option.{none-some}
 use Rattle.std.proofs.Math.Seq.{take-add}
+use Rattle.std.specs.List.Sorted.{IsPermutation}
+use Rattle.std.proofs.lemmas.List.Sorted.{IsPermutation-append_comm}
 use Rattle.iobuf_chain.specs.Lists.{between, without, rotated, inserted_after, TurnsAt, Each}
 
 module _ {X : Type 0} where
@@ -193,3 +195,8 @@ module _ {X : Type 0} where
   slice_get-set i x [] h = absurd (omega arith)
   slice_get-set zero x (z ∷ zs) h = refl
   slice_get-set (suc i) x (z ∷ zs) h = slice_get-set i x zs (omega arith)
+
+  pub rotated_permutes : (i : ℕ) (xs : List X) → IsPermutation xs (rotated i xs)
+  rotated_permutes i xs =
+      let P : List X → Type 0 = λ ys. IsPermutation ys (rotated i xs) in
+      subst P (take-append-drop i xs) (IsPermutation-append_comm (take i xs) (drop i xs))

@@ -1,14 +1,14 @@
 -- Shares that are given back to the nodes that they were made of.
-use Rattle.std.proofs.Common.{◌≡◌, ◌⊎◌, ℕ, suc, zero, ◌+◌, ◌-◌, ◌<◌, ◌≤◌, min, max, List, [], ◌∷◌, Option, Some, None, IsSome, slice_get, slice_set, refl, sym, ap, subst, ◌∙◌, arith, inl, inr}
+use Rattle.std.proofs.Common.{◌≡◌, ℕ, suc, zero, ◌+◌, ◌<◌, ◌≤◌, List, [], ◌∷◌, Option, Some, None, IsSome, slice_get, slice_set, refl, sym, ap, subst, ◌∙◌, arith, inl, inr}
 use Rattle.std.specs.List.{AllZip}
 use Rattle.std.proofs.lemmas.Option.{none-some}
 use Rattle.share_count.specs.Weights.{full, part}
 use Rattle.share_count.specs.Held.{Tally}
-use Rattle.buffer_model.specs.Share.{Share, Held, Kind, IsWhole, IsManaged, IsShare, IsReceiptFor, IsOfStorage, rest_of, part_of, absorbed_in}
-use Rattle.buffer_model.specs.Segment.{Segment, shared_as, hold_of}
-use Rattle.buffer_model.specs.Stake.{Stake, held, weight_at, weight_in, total, IsOfKind, IsOneWay, Keeps, KeepsTotals}
-use Rattle.buffer_model.specs.Minted.{Numbers, Adds, IsNew}
-use Rattle.buffer_model.specs.Clones.{Splits, Renews, Clones}
+use Rattle.buffer_model.specs.Share.{Share, Held, IsManaged, rest_of, absorbed_in}
+use Rattle.buffer_model.specs.Segment.{Segment, shared_as}
+use Rattle.buffer_model.specs.Stake.{held, weight_at, weight_in, total, IsOfKind, KeepsTotals}
+use Rattle.buffer_model.specs.Minted.{Numbers}
+use Rattle.buffer_model.specs.Clones.{Clones}
 use Rattle.storage.specs.declared.back.Back.{Back}
 use Rattle.storage.specs.declared.back.Back.TheVariants.{Kept, Done, Ran, Lent, Tag, Nothing}
 use Rattle.storage.specs.Back.{GivesBack, receipt_in}

@@ -343,10 +343,10 @@ module _ {O : Type 0} where
       let S : List (Segment O) → Type 0 = λ xs. RejoinsEach (r.done ++ r.todo) r.given xs in
       subst P all (subst Q (sym r.before_is) (subst S (sym r.after_is) (settles_then r.done r.given r.settled r.todo r.settles)))
 
-  keeps_over : (n : ℕ) (xs ys zs : List (Stake O)) → Keeps xs ys n → Keeps ys zs n → Keeps xs zs n
+  pub keeps_over : (n : ℕ) (xs ys zs : List (Stake O)) → Keeps xs ys n → Keeps ys zs n → Keeps xs zs n
   keeps_over n xs ys zs p q = record { total = q.total ∙ p.total; way = λ kind is. q.way kind (p.way kind is) }
 
-  clone_grows : (old new : Numbers) (before after clone : Segment O) → Clones old new before after clone → length old ≤ length new
+  pub clone_grows : (old new : Numbers) (before after clone : Segment O) → Clones old new before after clone → length old ≤ length new
   clone_grows old new before after clone is = elim is.shares [
     | inl (same, s) ↦ let e = ap length same in omega (arith, e)
     | inr (adds, s) ↦ let e = adds.1 in omega (arith, e)

@@ -1,5 +1,5 @@
 -- What a call on nodes has of storages, at its entry and at its exit.
-use Rattle.std.specs.Prelude.{List, [], ◌∷◌, Option, Some, None, Result, Ok, Err}
+use Rattle.std.specs.Prelude.{List, [], ◌∷◌, Result, Ok, Err}
 use Rattle.buffer_model.specs.Segment.{Segment}
 use Rattle.buffer_model.specs.Stake.{Stake, held}
 
@@ -17,3 +17,8 @@ answered (Err e) = []
 abbrev pub handed_back : {X A : Type 0} → Result A (List X) → List X
 handed_back (Ok a) = []
 handed_back (Err nodes) = nodes
+
+-- the nodes that are cut off, or the one that is handed back
+abbrev pub cut_off : {X : Type 0} → Result (List X) X → List X
+cut_off (Ok nodes) = nodes
+cut_off (Err node) = node ∷ []

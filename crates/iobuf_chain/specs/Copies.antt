@@ -1,7 +1,7 @@
 -- Which nodes share their storage, and how often they can.
 use Rattle.std.specs.Prelude.{◌≡◌, ℕ, ◌+◌, ◌-◌, ◌*◌, ◌<◌, ◌≤◌, ◌^◌, List, [], ◌∷◌, length, Option, ◌⊎◌}
 use Rattle.share_count.specs.Weights.{part}
-use Rattle.buffer_model.specs.Share.{Share, IsManaged}
+use Rattle.buffer_model.specs.Share.{IsManaged}
 use Rattle.buffer_model.specs.Segment.{Segment}
 use Rattle.iobuf_chain.specs.Lists.{Each}
 

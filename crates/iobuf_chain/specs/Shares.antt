@@ -1,8 +1,9 @@
 -- Chains that are shared: a second chain over the same bytes.
-use Rattle.std.specs.Prelude.{◌≡◌, ℕ, ◌+◌, ◌-◌, ◌<◌, ◌≤◌, Bool, true, false, List, [], ◌∷◌, ◌++◌, length, slice_get, slice_set, Option, Some, None, ◌⊎◌}
+use Rattle.std.specs.Prelude.{◌≡◌, ℕ, ◌+◌, ◌-◌, ◌<◌, Bool, true, false, List, [], ◌∷◌, ◌++◌, length, slice_get, slice_set, Option, Some, None, ◌⊎◌}
 use Rattle.buffer_model.specs.Share.{Share, own, IsWhole, IsManaged, absorbed_in}
+use Rattle.std.specs.List.{AllZip}
 use Rattle.share_count.specs.Weights.{full}
-use Rattle.buffer_model.specs.Segment.{Segment, bytes_of, trimmed_start, trimmed_end, between_rooms, shared_as}
+use Rattle.buffer_model.specs.Segment.{Segment, trimmed_start, trimmed_end, between_rooms, shared_as}
 use Rattle.buffer_model.specs.Minted.{Numbers, Adds, IsNew}
 use Rattle.buffer_model.specs.Clones.{Clones}
 
@@ -21,23 +22,21 @@ module _ {O : Type 0} where
   abbrev pub HasSome : ℕ → ℕ → Segment O → Type 0
   HasSome at n s = (at < length s.window) × (0 < n)
 
-  -- what is made of one node: nothing where it has none of the n bytes from place `at`; else its clone, with a window on those that it has. With `all` each node is cloned as it is
-  abbrev pub SharesOne : Bool → ℕ → ℕ → Numbers → Numbers → Segment O → Segment O → Option (Segment O) → Type 0
-  SharesOne true at n old new before after None = ⊥
-  SharesOne true at n old new before after (Some c) = Clones old new before after c
-  SharesOne false at n old new before after None = (HasSome at n before → ⊥) × (after ≡ before) × (new ≡ old)
-  SharesOne false at n old new before after (Some c) =
+  -- what is shared of one node: where it has some of the n bytes from place `at`, its clone with a window on them; else nothing, and it stays
+  abbrev pub SharesOne : ℕ → ℕ → Numbers → Numbers → Segment O → Segment O → Option (Segment O) → Type 0
+  SharesOne at n old new before after None = (HasSome at n before → ⊥) × (after ≡ before) × (new ≡ old)
+  SharesOne at n old new before after (Some c) =
       HasSome at n before × Clones old new before after (shared_as c.share before)
       × (c ≡ narrowed at n (shared_as c.share before))
 
-  -- the same of each node, in order. A node passes so many places and takes so many bytes as it has
-  abbrev pub SharesNodes : Bool → ℕ → ℕ → Numbers → Numbers → List (Segment O) → List (Segment O)
+  -- so many first nodes in turn; behind them `left` of the n bytes are still to be shared, and the others stay. A node passes so many places and takes so many bytes as it has
+  abbrev pub SharesNodes : ℕ → ℕ → ℕ → Numbers → Numbers → List (Segment O) → List (Segment O)
       → List (Option (Segment O)) → Type 0
-  SharesNodes all at n old new [] [] [] = new ≡ old
-  SharesNodes all at n old new (b ∷ bs) (m ∷ ms) (o ∷ os) =
-      (mid : Numbers) × SharesOne all at n old mid b m o
-      × SharesNodes all (at - length b.window) (n - (length b.window - at)) mid new bs ms os
-  SharesNodes all at n old new _ _ _ = ⊥
+  SharesNodes at n left old new bs ms [] = (left ≡ n) × (ms ≡ bs) × (new ≡ old)
+  SharesNodes at n left old new (b ∷ bs) (m ∷ ms) (o ∷ os) =
+      (mid : Numbers) × SharesOne at n old mid b m o
+      × SharesNodes (at - length b.window) (n - (length b.window - at)) left mid new bs ms os
+  SharesNodes at n left old new _ _ (o ∷ os) = ⊥
 
   -- those that were made
   abbrev pub present : List (Option (Segment O)) → List (Segment O)
@@ -45,11 +44,15 @@ module _ {O : Type 0} where
   present (None ∷ os) = present os
   present (Some c ∷ os) = c ∷ present os
 
-  -- a chain before and after n bytes of it from place `at` were shared, and the share: of each node that has one of these bytes a clone with a window on them; the others stay as they are
-  pub record SharesRange (at n : ℕ) (old new : Numbers) (before after share : List (Segment O)) : Type 0 where
+  -- nodes before and after some of n bytes from place `at` were shared, with what is left of them, and the shares
+  pub record SharesSome (at n left : ℕ) (old new : Numbers) (before after shares : List (Segment O)) : Type 0 where
     pub parts : List (Option (Segment O))
-    pub shares : SharesNodes false at n old new before after parts
-    pub nodes : share ≡ present parts
+    pub nodes : SharesNodes at n left old new before after parts
+    pub shares_are : shares ≡ present parts
+
+  -- a chain before and after n bytes of it from place `at` were shared, and the share: of each node that has one of these bytes a clone with a window on them, in order; the others stay as they are
+  abbrev pub SharesRange : ℕ → ℕ → Numbers → Numbers → List (Segment O) → List (Segment O) → List (Segment O) → Type 0
+  SharesRange at n old new before after share = SharesSome at n 0 old new before after share
 
   -- one node without data and without room, on a storage that was just made
   pub record IsEmptyChain (old new : Numbers) (nodes : List (Segment O)) : Type 0 where
@@ -107,6 +110,16 @@ module _ {O : Type 0} where
     pub clones : Clones old new node left clone
     pub after_is : after ≡ slice_set before i left
 
+  -- what node i has of some bytes is shared: the mint, the nodes before and after, and the shares before and after
+  pub record SharesAt (i at n : ℕ) (old new : Numbers) (before after shares more : List (Segment O)) : Type 0 where
+    pub node : Segment O
+    pub left : Segment O
+    pub part : Option (Segment O)
+    pub there : slice_get before i ≡ Some node
+    pub one : SharesOne at n old new node left part
+    pub after_is : after ≡ slice_set before i left
+    pub more_is : more ≡ shares ++ present (part ∷ [])
+
   -- a share is given back to node i
   pub record RejoinsAt (i : ℕ) (before : List (Segment O)) (share : Share O) (after : List (Segment O)) : Type 0 where
     pub node : Segment O
@@ -114,3 +127,40 @@ module _ {O : Type 0} where
     pub there : slice_get before i ≡ Some node
     pub rejoins : Rejoins node share settled
     pub after_is : after ≡ slice_set before i settled
+
+  -- the next of some shares may be given back to node i, where that has some of the bytes
+  abbrev pub IsReturnableAt : ℕ → ℕ → ℕ → List (Segment O) → List (Segment O) → Type 0
+  IsReturnableAt i at n nodes shares =
+      (node share : Segment O) (rest : List (Segment O)) → slice_get nodes i ≡ Some node → HasSome at n node
+      → shares ≡ share ∷ rest → IsReturnable node.share share.share
+
+  -- nodes and shares before and after the next share was given back to node i, where that has some of the bytes
+  pub record RejoinsNext (i at n : ℕ) (before shares after left : List (Segment O)) : Type 0 where
+    pub node : Segment O
+    pub there : slice_get before i ≡ Some node
+    pub stays_or_gives :
+        ((HasSome at n node → shares ≡ []) × (after ≡ before) × (left ≡ shares))
+        ⊎ (HasSome at n node × (share : Segment O) × (shares ≡ share ∷ left) × RejoinsAt i before share.share after)
+
+  -- nodes of which some bytes were shared, and the shares
+  pub record IsSharedSo (at n : ℕ) (before nodes shares : List (Segment O)) : Type 0 where
+    pub left : ℕ
+    pub old : Numbers
+    pub new : Numbers
+    pub shared : SharesSome at n left old new before nodes shares
+
+  -- whatever the nodes were before they were shared so, they have all of it again
+  abbrev pub RegainsAll : ℕ → ℕ → List (Segment O) → List (Segment O) → List (Segment O) → Type 0
+  RegainsAll at n nodes shares after =
+      (before : List (Segment O)) → IsSharedSo at n before nodes shares → AllZip Regains before after
+
+  -- a chain before its first k bytes left, those, and the chain afterwards: the first node is cloned, the clone has its first k bytes, and the node itself has the others and stays
+  pub record CutsFirst (k : ℕ) (old new : Numbers) (before front after : List (Segment O)) : Type 0 where
+    pub node : Segment O
+    pub behind : List (Segment O)
+    pub left : Segment O
+    pub clone : Segment O
+    pub before_is : before ≡ node ∷ behind
+    pub clones : Clones old new node left clone
+    pub front_is : front ≡ trimmed_end (length node.window - k) clone ∷ []
+    pub after_is : after ≡ trimmed_start k left ∷ behind

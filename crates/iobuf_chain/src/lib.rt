@@ -1,13 +1,16 @@
 //! Chains of windows: lists of one or more nodes.
 #![tactic(auto)]
 
+mod absorb;
 mod chain;
 mod ends;
 mod fault;
 mod joins;
 pub mod laws;
+mod managed;
 mod nodes;
 mod parts;
+mod range;
 mod settle;
 mod share;
 #[cfg(test)]

@@ -1,12 +1,18 @@
 //! Lists of one or more items, of which the first lies in the list itself: a list of one owns no memory.
-ghost use Rattle.std.specs.Prelude.{◌≡◌, ◌+◌, ◌<◌, ◌≤◌, List, [], ◌∷◌, ◌++◌, Some, length, take, drop, slice_get, slice_set, IfOk, OnOk, OnErr, MatchResult};
+ghost use Rattle.std.specs.Prelude.{◌≡◌, ◌+◌, ◌<◌, ◌≤◌, List, [], ◌∷◌, ◌++◌, Some, length, take, drop, slice_get, slice_set, IsOk, IfOk, OnOk, OnErr, MatchResult};
 ghost use Rattle.std.specs.VecDeque.{deque_len, deque_capacity};
-ghost use Rattle.iobuf_chain.specs.Lists.{between, without, rotated, inserted_after};
+ghost use Rattle.std.specs.Prelude.{IfSome};
+ghost use Rattle.buffer_model.specs.Segment.{trimmed_start, trimmed_end};
+ghost use Rattle.iobuf_chain.specs.Lists.{between, without, rotated, inserted_after, TurnsAt};
+ghost use Rattle.iobuf_chain.specs.Shares.{ClonesAt};
 
+use iobuf_node::IoBuf;
+use share_count::Mint;
 use std::alloc::{AllocError, Global};
 use std::collections::VecDeque;
 use std::marker::Model;
 use std::mem;
+use storage::Told;
 
 /// One or more items. Contracts see the list of them.
 #[derive(Drop)]
@@ -135,8 +141,9 @@ impl<T: Drop> Nodes<T> {
     // The first k items leave, with another behind them. At want of memory that one is handed back. O(k).
     pub(crate) fn take_front_with(&mut self, k: usize, last: T) -> Result<Nodes<T>, T>
         requires { k < length self.old }
-        ensures { MatchResult result (λ n. (n ≡ take k self.old ++ last ∷ [])
+        ensures front { MatchResult result (λ n. (n ≡ take k self.old ++ last ∷ [])
             × (self.new ≡ drop k self.old)) (λ x. (x ≡ last) × (self.new ≡ self.old)) }
+        ensures none { k ≡ 0 → IsOk result }
     {
         let alloc = self.allocator();
         let Ok(mut taken) = VecDeque::with_capacity(alloc, k) else {
@@ -173,6 +180,7 @@ impl<T: Drop> Nodes<T> {
         ensures taken { IfOk result (λ n. n ≡ between i j self.old) }
         ensures left { OnOk result (self.new ≡ without i j self.old) }
         ensures refused { OnErr result (self.new ≡ self.old) }
+        ensures one { j ≡ i + 1 → IsOk result }
     {
         let more = j - i - 1;
         let mut taken = VecDeque::with_capacity(self.allocator(), more)?;
@@ -187,6 +195,39 @@ impl<T: Drop> Nodes<T> {
         move_front(&mut self.rest, &mut taken, more);
         self.rest.rotate_right(i - 1);
         Ok(Nodes { first, rest: taken })
+    }
+}
+
+impl<'a, O: Told> Nodes<IoBuf<'a, O>> {
+    // A clone of the first node.
+    pub(crate) fn clone_first(
+        &mut self,
+        alloc: Global,
+        mint: &mut Mint,
+    ) -> Result<IoBuf<'a, O>, AllocError>
+        ensures shares { IfOk result (λ c. ClonesAt 0 mint.old mint.new self.old self.new c) }
+        ensures refused { OnErr result ((self.new ≡ self.old) × (mint.new ≡ mint.old)) }
+    {
+        match self.first.clone_one(alloc, mint) {
+            Ok(clone) => Ok(clone),
+            Err(e) => Err(e),
+        }
+    }
+
+    // The first k bytes of the first node leave.
+    pub(crate) fn trim_first_start(&mut self, k: usize)
+        requires { IfSome (slice_get self.old 0) (λ s. k ≤ length s.window) }
+        ensures { TurnsAt (trimmed_start k) 0 self.old self.new }
+    {
+        self.first.trim_start(k);
+    }
+
+    // The last k bytes of the first node leave.
+    pub(crate) fn trim_first_end(&mut self, k: usize)
+        requires { IfSome (slice_get self.old 0) (λ s. k ≤ length s.window) }
+        ensures { TurnsAt (trimmed_end k) 0 self.old self.new }
+    {
+        self.first.trim_end(k);
     }
 }
 

@@ -1,19 +1,21 @@
 //! Parts that leave a chain.
-ghost use Rattle.std.specs.Prelude.{◌≡◌, ◌+◌, ◌≤◌, ◌<◌, ◌^◌, List, [], ◌∷◌, ◌++◌, IfOk, OnOk, OnErr, length, take, drop, MatchResult};
+ghost use Rattle.std.specs.Prelude.{◌≡◌, ◌+◌, ◌≤◌, ◌<◌, ◌^◌, List, [], ◌∷◌, ◌++◌, IsOk, IfOk, IfSome, OnOk, OnErr, length, take, drop, slice_get, MatchResult};
 ghost use Rattle.buffer_model.specs.Segment.{bytes_of};
-ghost use Rattle.buffer_model.specs.Stake.{KeepsTotals};
-ghost use Rattle.iobuf_chain.specs.Accounts.{held_by, answered};
+ghost use Rattle.buffer_model.specs.Stake.{KeepsTotals, KeepsTotalsBelow};
+ghost use Rattle.iobuf_chain.specs.Accounts.{held_by, answered, cut_off};
 ghost use Rattle.iobuf_chain.specs.Lists.{between, without};
+ghost use Rattle.iobuf_chain.specs.Shares.{CutsFirst};
 
 use crate::chain::Chain;
 use crate::nodes::Nodes;
 use iobuf_node::IoBuf;
-use std::alloc::AllocError;
+use share_count::Mint;
+use std::alloc::{AllocError, Global};
 use std::collections::VecDeque;
 use storage::Told;
 
 impl<'a, O: Told> Chain<'a, O> {
-    /// Nodes `i` up to and without `j` leave, as a chain of their own. One node stays at least. O(nodes that leave, and of those before and those behind the fewer). At want of memory nothing changes.
+    /// Nodes `i` up to and without `j` leave, as a chain of their own. One node stays at least. O(nodes that leave, and of those before and those behind the fewer). One node takes no memory. At want of memory nothing changes.
     pub fn separate(&mut self, i: usize, j: usize) -> Result<Chain<'a, O>, AllocError>
         requires some { i < j }
         requires there { j ≤ length self.old }
@@ -21,46 +23,49 @@ impl<'a, O: Told> Chain<'a, O> {
         ensures taken { IfOk result (λ c. c ≡ between i j self.old) }
         ensures left { OnOk result (self.new ≡ without i j self.old) }
         ensures refused { OnErr result (self.new ≡ self.old) }
+        ensures one { j ≡ i + 1 → IsOk result }
         ensures totals { KeepsTotals (held_by self.old) (held_by (self.new ++ answered result)) }
     {
         let all = self.sum;
-        let room = VecDeque::with_capacity(self.nodes.allocator(), j - i)?;
+        let room = VecDeque::with_capacity(self.nodes.allocator(), j - i - 1)?;
         let nodes = self.nodes.take_between(i, j)?;
         let sum = sum_of(&nodes);
         self.sum = all - sum;
         Ok(Chain { nodes, room, sum })
     }
 
-    /// Node `i` leaves, as a chain of its own. Another stays. O(nodes before it or behind it, of which there are fewer). At want of memory nothing changes.
+    /// Node `i` leaves, as a chain of its own. Another stays. O(nodes before it or behind it, of which there are fewer), and no memory: so it always succeeds.
     pub fn unlink(&mut self, i: usize) -> Result<Chain<'a, O>, AllocError>
         requires there { i < length self.old }
         requires stays { 1 < length self.old }
         ensures taken { IfOk result (λ c. c ≡ between i (i + 1) self.old) }
         ensures left { OnOk result (self.new ≡ without i (i + 1) self.old) }
-        ensures refused { OnErr result (self.new ≡ self.old) }
+        ensures always { IsOk result }
         ensures totals { KeepsTotals (held_by self.old) (held_by (self.new ++ answered result)) }
     {
         let _most = self.nodes.len();
         self.separate(i, i + 1)
     }
 
-    /// The first node leaves, as a chain of its own. Another stays. O(1). At want of memory nothing changes.
+    /// The first node leaves, as a chain of its own. Another stays. O(1), and no memory: so it always succeeds.
     pub fn pop(&mut self) -> Result<Chain<'a, O>, AllocError>
         requires { 1 < length self.old }
         ensures taken { IfOk result (λ c. c ≡ take 1 self.old) }
         ensures left { OnOk result (self.new ≡ drop 1 self.old) }
-        ensures refused { OnErr result (self.new ≡ self.old) }
+        ensures always { IsOk result }
         ensures totals { KeepsTotals (held_by self.old) (held_by (self.new ++ answered result)) }
     {
         self.separate(0, 1)
     }
 
-    /// The nodes before node `i` leave, with another node behind them, as a chain of their own; node `i` and those behind it stay. O(nodes that leave). At want of memory the other is handed back, and nothing changes.
+    /// The nodes before node `i` leave, with another node behind them, as a chain of their own; node `i` and those behind it stay. O(nodes that leave). Where none leaves, it takes no memory. At want of memory the other is handed back, and nothing changes.
     pub fn cut_before(&mut self, i: usize, last: IoBuf<'a, O>) -> Result<Chain<'a, O>, IoBuf<'a, O>>
         requires there { i < length self.old }
         requires sum { length (bytes_of (take i self.old)) + length last.window < 2 ^ 64 }
         ensures front { MatchResult result (λ c. (c ≡ take i self.old ++ last.entry ∷ [])
             × (self.new ≡ drop i self.old)) (λ n. (n ≡ last.entry) × (self.new ≡ self.old)) }
+        ensures none { i ≡ 0 → IsOk result }
+        ensures totals { KeepsTotals (held_by (self.old ++ last.entry ∷ [])) (held_by (self.new ++ cut_off result)) }
     {
         let all = self.sum;
         let more = last.length();
@@ -71,6 +76,33 @@ impl<'a, O: Told> Chain<'a, O> {
         let sum = sum_of(&nodes);
         self.sum = all - (sum - more);
         Ok(Chain { nodes, room, sum })
+    }
+}
+
+impl<'a, O: Told> Chain<'a, O> {
+    /// The first `k` bytes of the first node, which has more, leave in a clone of it, as a chain of their own. The node itself stays behind, without them. O(1). It takes no memory, and copies no byte, but at weight 1. At want of memory nothing changes.
+    pub fn cut_first(
+        &mut self,
+        alloc: Global,
+        k: usize,
+        mint: &mut Mint,
+    ) -> Result<Chain<'a, O>, AllocError>
+        requires { IfSome (slice_get self.old 0) (λ s. k < length s.window) }
+        ensures cut { IfOk result (λ front. CutsFirst k mint.old mint.new self.old front self.new) }
+        ensures refused { OnErr result ((self.new ≡ self.old) × (mint.new ≡ mint.old)) }
+        ensures totals { KeepsTotalsBelow (length mint.old) (held_by self.old) (held_by (self.new ++ answered result)) }
+    {
+        let all = self.sum;
+        let len = self.nodes.get(0).length();
+        let mut clone = self.nodes.clone_first(alloc, mint)?;
+        clone.trim_end(len - k);
+        self.nodes.trim_first_start(k);
+        self.sum = all - k;
+        Ok(Chain {
+            nodes: Nodes::of(alloc, clone),
+            room: VecDeque::new(alloc),
+            sum: k,
+        })
     }
 }
 

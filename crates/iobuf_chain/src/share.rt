@@ -71,7 +71,7 @@ fn share_nodes<'a, O: Release>(
 }
 
 // A clone of node i.
-fn share_node<'a, O: Release>(
+pub(crate) fn share_node<'a, O: Release>(
     nodes: &mut Nodes<IoBuf<'a, O>>,
     i: usize,
     alloc: Global,
@@ -81,6 +81,9 @@ fn share_node<'a, O: Release>(
     ensures shares { IfOk result (λ c. ClonesAt i mint.old mint.new nodes.old nodes.new c) }
     ensures refused { OnErr result ((nodes.new ≡ nodes.old) × (mint.new ≡ mint.old)) }
 {
+    if i == 0 {
+        return nodes.clone_first(alloc, mint);
+    }
     let mut node = nodes.swap(i, IoBuf::wrap(&[]));
     let clone = node.clone_one(alloc, mint);
     let _ = nodes.swap(i, node);
@@ -125,7 +128,11 @@ fn rejoin_each<'a, O: Release>(nodes: &mut Nodes<IoBuf<'a, O>>, clones: &mut Vec
 }
 
 // Gives a clone back to node i.
-fn rejoin_node<'a, O: Release>(nodes: &mut Nodes<IoBuf<'a, O>>, i: usize, share: IoBuf<'a, O>)
+pub(crate) fn rejoin_node<'a, O: Release>(
+    nodes: &mut Nodes<IoBuf<'a, O>>,
+    i: usize,
+    share: IoBuf<'a, O>,
+)
     requires there { i < length nodes.old }
     requires returnable { IfSome (slice_get nodes.old i) (λ n. IsReturnable n.share share.share) }
     ensures { RejoinsAt i nodes.old share.entry.share nodes.new }

@@ -73,6 +73,10 @@ fn trim_node_start<'a, O: Told>(nodes: &mut Nodes<IoBuf<'a, O>>, i: usize, k: us
     requires there { i < length nodes.old }
     ensures { TurnsAt (trimmed_start k) i nodes.old nodes.new }
 {
+    if i == 0 {
+        nodes.trim_first_start(k);
+        return;
+    }
     let mut node = nodes.swap(i, IoBuf::wrap(&[]));
     node.trim_start(k);
     let _ = nodes.swap(i, node);
@@ -84,6 +88,10 @@ fn trim_node_end<'a, O: Told>(nodes: &mut Nodes<IoBuf<'a, O>>, i: usize, k: usiz
     requires there { i < length nodes.old }
     ensures { TurnsAt (trimmed_end k) i nodes.old nodes.new }
 {
+    if i == 0 {
+        nodes.trim_first_end(k);
+        return;
+    }
     let mut node = nodes.swap(i, IoBuf::wrap(&[]));
     node.trim_end(k);
     let _ = nodes.swap(i, node);

@@ -1,5 +1,4 @@
-use Rattle.std.proofs.Common.{◌≡◌, ◌+◌, ◌-◌, ◌≤◌, length, take, arith}
-use Rattle.buffer_model.specs.Segment.{bytes_of}
+use Rattle.std.proofs.Common.{arith}
 use Rattle.iobuf_chain.proofs.Bytes.{sum_more}
 use Rattle.chain_unshare.proofs.Splitting.{run_stops}
 use Rattle.chain_unshare.proofs.front.run_of.Goals as goal

@@ -1,0 +1,14 @@
+use Rattle.std.proofs.Common.{rules, ◌≡◌, ◌∙◌}
+use Rattle.iobuf_chain.proofs.Moved.{picks_step, picks_end}
+use Rattle.iobuf_chain.proofs.managed.pick_each.Goals as goal
+
+pub nodes-preserved : goal.nodes-preserved
+nodes-preserved g c = record {
+  picks =
+      picks_step _ _ _ _ _ _ _ c.in-Some.node c.in-Some-pop_front.copy c.pick.result c.nodes.invariant.picks c.in-Some.ensures.items
+      c.in-Some-pop_front.ensures.items c.pick.ensures.stays c.pick.ensures.copy c.push_back_reserved.ensures.items;
+  mint = c.pick.ensures.mint ∙ c.nodes.invariant.mint;
+}
+
+pub returns-clause-picks : goal.returns-clause-picks
+returns-clause-picks g c = picks_end _ _ _ _ c.nodes.invariant.picks (search rules)
