@@ -16,7 +16,7 @@ import threading
 import time
 
 sys.dont_write_bytecode = True
-from grammar import MAX, Length, report  # noqa: E402
+from grammar import MAX, Delim, Fixed, Length, Line, report  # noqa: E402
 
 TOP = os.path.dirname(os.path.dirname(os.path.abspath(__file__)))
 LAUNCHER = os.path.join(TOP, "yukolese")
@@ -48,24 +48,58 @@ def same(what, got, wanted):
         raise Failure(f"{what}: got {str(got)[:300]}, wanted {str(wanted)[:300]}")
 
 
-def meets_model(field, strip, stream):
-    text, fault = report(Length(field, strip=strip), stream)
-    status, out, err = run(frames_words(field, strip), stream)
-    same("report", out, text)
-    same("status", status, 3 if fault else 0)
-    same("standard error", err.decode(), f"{fault}\n" if fault else "")
+def meets_model(codec, stream, blocks=(None,)):
+    """The program cuts a stream as the model of its codec does, whatever the size of its blocks."""
+    text, fault = report(codec, stream)
+    for block in blocks:
+        words = ["frames", codec.word(), *([] if block is None else [f"--block={block}"])]
+        status, out, err = run(words, stream)
+        what = f"{' '.join(words)} over {len(stream)} bytes, {stream[:40]!r}: "
+        same(what + "report", out, text)
+        same(what + "status", status, 3 if fault else 0)
+        same(what + "standard error", err.decode(), f"{fault}\n" if fault else "")
 
 
 def worked_examples():
-    same("two frames", run(frames_words(1, 1), bytes.fromhex("036162630178")),
-         (0, b"F 0 3 616263\nF 4 1 78\nend 6\n", b""))
-    same("empty input", run(frames_words(1, 1)), (0, b"end 0\n", b""))
-    same("cut", run(["frames", "length,field=2"], bytes.fromhex("00056162")),
-         (3, b"X 0 Cut\nend 4\n", b"stream 0 Cut\n"))
-    same("empty frame", run(frames_words(1, 1), b"\0"), (0, b"F 0 0 -\nend 1\n", b""))
-    same("field kept", run(["frames", "length,field=1"], b"\1a"), (0, b"F 0 2 0161\nend 2\n", b""))
-    same("other order of keys", run(["frames", "length,strip=2,field=2"], b"\0\1a"),
-         (0, b"F 0 1 61\nend 3\n", b""))
+    """What each codec makes of small streams, read whole and byte by byte."""
+    table = [
+        ("length,field=1,strip=1", b"\3abc\1x", ["F 0 3 616263", "F 4 1 78"]),
+        ("length,field=1,strip=1", b"", []),
+        ("length,field=2", b"\0\5ab", ["X 0 Cut"]),
+        ("length,field=1,strip=1", b"\0", ["F 0 0 -"]),
+        ("length,field=1", b"\1a", ["F 0 2 0161"]),
+        ("length,strip=2,field=2", b"\0\1a", ["F 0 1 61"]),
+        ("length,field=2,order=le,strip=2", b"\1\0a", ["F 0 1 61"]),
+        ("length,field=8,max=16", b"\xff" * 8 + b"a", ["X 0 TooLong"]),
+        ("length,field=1,adjust=-3", b"\1\1a", ["X 0 TooSmall", "X 1 TooSmall", "X 2 Cut"]),
+        ("length,field=1,strip=3", b"\1a", ["X 0 StripOver"]),
+        ("length,field=1,offset=2,strip=1", b"hi\2abz", ["F 0 4 69026162", "X 5 Cut"]),
+        ("line", b"", []),
+        ("line", b"a\r\nb\n", ["F 0 1 61", "F 3 1 62"]),
+        ("line", b"\n\r\n\r", ["F 0 0 -", "F 1 0 -", "F 3 1 0d"]),
+        ("line", b"a\rb\nc", ["F 0 3 610d62", "F 4 1 63"]),
+        ("line,strip=no", b"a\r\nb", ["F 0 3 610d0a", "F 3 1 62"]),
+        ("line,end=lf", b"a\r\nb\n", ["F 0 2 610d", "F 3 1 62"]),
+        ("line,end=crlf", b"a\nb\r\n", ["F 0 3 610a62"]),
+        ("line,end=crlf", b"\r\r\n\r", ["F 0 1 0d", "F 3 1 0d"]),
+        ("line,max=2", b"abcd\ne", ["X 0 TooLong", "F 5 1 65"]),
+        ("line,max=2", b"ab\r\nab\nabc", ["F 0 2 6162", "F 4 2 6162", "X 7 TooLong"]),
+        ("delim,hex=0a", b"a\n\nb", ["F 0 1 61", "F 2 0 -", "X 3 Cut"]),
+        ("delim,hex=00|0000", b"a\0\0b\0", ["F 0 1 61", "F 2 0 -", "F 3 1 62"]),
+        ("delim,hex=0d0a|0a", b"a\r\nb\n", ["F 0 1 61", "F 3 1 62"]),
+        ("delim,hex=6162,strip=no", b"xaabab", ["F 0 4 78616162", "F 4 2 6162"]),
+        ("delim,hex=616261", b"ababa", ["F 0 0 -", "X 3 Cut"]),
+        ("delim,hex=2c,max=1", b"ab,c,de", ["X 0 TooLong", "F 3 1 63", "X 5 Cut"]),
+        ("fixed,size=2", b"abcde", ["F 0 2 6162", "F 2 2 6364", "X 4 Cut"]),
+        ("fixed,size=1", b"ab", ["F 0 1 61", "F 1 1 62"]),
+    ]
+    for codec, stream, lines in table:
+        fault = next((line for line in lines if line.startswith("X")), None)
+        text = "".join(f"{line}\n" for line in [*lines, f"end {len(stream)}"]).encode()
+        error = f"stream {fault[2:]}\n".encode() if fault else b""
+        for more in ([], ["--block", "1"]):
+            same(f"{codec} over {stream!r} {more}", run(["frames", codec, *more], stream),
+                 (3 if fault else 0, text, error))
 
 
 def bad_words():
@@ -142,7 +176,6 @@ def bad_words():
         "InOut": [(6, [*relay, "--in", "a", "a"]), (6, [*relay, "b", "--in=c", "c@1..2"])],
         "NotBuilt": [
             (0, ["chain"]), (0, ["chain", "--in", "a"]), (0, [*relay, "a", "b@1..2"]), (0, ["mill", "3"]),
-            (0, ["frames", "line"]), (0, ["frames", "delim,hex=0a|0d0a"]), (0, ["frames", "fixed,size=3"]),
         ],
     }
     for kind, rows in table.items():
@@ -192,11 +225,15 @@ def named_inputs():
     same("limit of standard input", run([*words, "--limit", "4"], stream), (7, b"F 0 3 616263\nend 4\n", b"limit\n"))
 
 
-def random_streams():
+BLOCKS = (None, 1, 2, 7, 64, 4096)
+
+
+def random_frames():
+    """Streams of frames by their length, some of them cut or spoilt."""
     rng = random.Random(20)
     for case in range(60):
         field = rng.choice([1, 2, 4, 8])
-        strip = rng.randint(0, field)
+        codec = Length(field, strip=rng.randint(0, field))
         payloads = [rng.randbytes(rng.choice([0, 1, 2, 17, 200, 255])) for _ in range(rng.randint(0, 400))]
         stream = framed(field, payloads)
         if case % 3 == 1:
@@ -204,7 +241,36 @@ def random_streams():
         if case % 3 == 2 and field > 2:
             cut = rng.randint(0, len(stream))
             stream = stream[:cut] + rng.randbytes(12) + stream[cut:]
-        meets_model(field, strip, stream)
+        meets_model(codec, stream, (None, rng.choice(BLOCKS)))
+
+
+def any_codec(rng):
+    """A codec, and bytes of which its streams are likely made."""
+    kind = rng.randrange(4)
+    small = rng.choice([1, 2, 5, 40])
+    if kind == 0:
+        field, offset = rng.choice([1, 2, 4]), rng.choice([0, 0, 1, 3])
+        codec = Length(field, offset, rng.choice([0, -field, 2]), rng.choice([0, field, 3]), rng.choice(["be", "le"]),
+                       field + offset + rng.choice([0, 3, 3000]))
+        return codec, [b"\0"] * 6 + [b"\0\0\0", b"\1", b"\2\0", b"\3", b"\5", b"\x20"]
+    if kind == 1:
+        codec = Line(rng.choice(["any", "lf", "crlf"]), rng.random() < 0.7, rng.choice([small, MAX]))
+        return codec, [b"\n", b"\r", b"\r\n", b"a", b"bc", b"d" * 30]
+    if kind == 2:
+        marks = rng.choice([[b"\n"], [b"\0", b"\0\0"], [b"ab", b"b", b"bab"], [b"aab"], [b"a" * 64, b"ab"],
+                            [b"\r\n", b"\n", b"\r"], [b"ba", b"abab", b"a" * 63 + b"b"]])
+        codec = Delim(marks, rng.random() < 0.7, rng.choice([small, MAX]))
+        return codec, [*marks, b"a", b"b", b"ab", b"\0", b"\r", b"x" * 9, b"a" * 62]
+    return Fixed(rng.choice([1, 2, 3, 64, 5000])), [b"a", b"bc", b"d" * 100]
+
+
+def random_streams():
+    """Streams that are likely to hold endings, parts of endings and faults, for every codec."""
+    rng = random.Random(24)
+    for _ in range(240):
+        codec, parts = any_codec(rng)
+        stream = b"".join(rng.choice(parts) for _ in range(rng.choice([0, 1, 5, 40, 400])))
+        meets_model(codec, stream, (None, 1, rng.choice(BLOCKS)))
 
 
 def odd_pieces():
@@ -236,11 +302,16 @@ def odd_pieces():
 def long_frames():
     rng = random.Random(22)
     whole = rng.randbytes(MAX - 4)
-    meets_model(4, 4, framed(4, [whole, b"behind"]))
-    meets_model(4, 0, framed(4, [whole]))
-    meets_model(4, 4, framed(4, [whole + b"x", b"behind"]))
-    meets_model(8, 8, b"\xff" * 8 + b"skipped to the end")
-    meets_model(4, 4, (300_000).to_bytes(4, "big") + b"too short")
+    meets_model(Length(4, strip=4), framed(4, [whole, b"behind"]))
+    meets_model(Length(4), framed(4, [whole]))
+    meets_model(Length(4, strip=4), framed(4, [whole + b"x", b"behind"]))
+    meets_model(Length(8, strip=8), b"\xff" * 8 + b"skipped to the end")
+    meets_model(Length(4, strip=4), (300_000).to_bytes(4, "big") + b"too short")
+    line = whole.replace(b"\n", b"\r")
+    meets_model(Line(), line + b"\r\n" + line, (None, 1_048_576))
+    meets_model(Line(max=1000), line + b"\nbehind")
+    meets_model(Delim([b"\n", b"\r" * 64]), line + b"\n" + line)
+    meets_model(Fixed(700_000), whole + whole)
 
 
 def real_files():
@@ -251,8 +322,8 @@ def real_files():
         with open(source, "wb") as file:
             file.write(stream)
         with open(source, "rb") as stdin, open(target, "wb") as stdout:
-            status = subprocess.run([LAUNCHER, *frames_words(1, 1)], stdin=stdin, stdout=stdout, timeout=SECONDS).returncode
-        same("status", status, 0)
+            done = subprocess.run([LAUNCHER, *frames_words(1, 1)], stdin=stdin, stdout=stdout, timeout=SECONDS)
+        same("status", done.returncode, 0)
         with open(target, "rb") as file:
             same("report", file.read(), report(Length(1, strip=1), stream)[0])
 
@@ -322,32 +393,83 @@ def tiny_address_space():
     same("statuses", seen, {0, 8})
 
 
+def in_small_memory(words, pieces, wanted, kib=16 << 10):
+    """A run over a long input in a small address space, and what it writes, or nothing where that is thrown away."""
+    with tempfile.TemporaryFile() as source, tempfile.TemporaryFile() as sink:
+        for piece, times in pieces:
+            source.write(piece * times)
+        source.seek(0)
+        done = subprocess.run([PROGRAM, *words], stdin=source, stdout=subprocess.DEVNULL if wanted[1] is None else sink,
+                              stderr=subprocess.PIPE, preexec_fn=within(kib), timeout=SECONDS)
+        sink.seek(0)
+        out = None if wanted[1] is None else sink.read(1000)
+    same(f"words {words}", (done.returncode, out, done.stderr), wanted)
+
+
 def bounded_memory():
-    """Sixteen megabytes of the smallest frames go through in sixteen megabytes of address space."""
-    for frame in (b"\0", b"\1a"):
-        with tempfile.TemporaryFile() as source, open(os.devnull, "wb") as sink:
-            source.write(frame * ((16 << 20) // len(frame)))
-            source.seek(0)
-            done = subprocess.run([PROGRAM, *frames_words(1, 1)], stdin=source, stdout=sink,
-                                  stderr=subprocess.PIPE, preexec_fn=within(16 << 10), timeout=SECONDS)
-        same("status", (done.returncode, done.stderr), (0, b""))
+    """Sixteen megabytes of the smallest frames go through in little address space, by the size of a block."""
+    small = [("length,field=1,strip=1", b"\0"), ("length,field=1,strip=1", b"\1a"), ("line", b"\n"),
+             ("delim,hex=0a|61", b"a"), ("fixed,size=1", b"a")]
+    for codec, frame in small:
+        for block, kib in ((65_536, 32 << 10), (4096, 8 << 10)):
+            words = ["frames", codec, f"--block={block}"]
+            in_small_memory(words, [(frame, (16 << 20) // len(frame))], (0, None, b""), kib)
+
+
+def hostile_streams():
+    """Streams of which no frame comes take no more memory than others, whatever the size of the blocks."""
+    size = 2 << 20
+    tries = [
+        # A line without an end, and one of which a frame may come until it is too long.
+        ("line,max=1000", [(b"a", size)], "TooLong"),
+        ("line,end=crlf,max=1000", [(b"\r", size)], "TooLong"),
+        # Frames without their delimiter, and with all of it but its last byte.
+        ("delim,hex=0a,max=1000", [(b"a", size)], "Cut"),
+        ("delim,hex=" + "61" * 63 + "62,max=1000", [(b"a", size)], "Cut"),
+        # A length of nearly 2^64, one that is too long, and one that doesn't come.
+        ("length,field=8", [(b"\xff", 8), (b"a", size)], "TooLong"),
+        ("length,field=4,max=1000", [(b"\0\x7f\xff\xff", 1), (b"a", size)], "TooLong"),
+        ("length,field=4", [(b"\0\x0f\xff\xfc", 1), (b"a", 1000)], "Cut"),
+        ("fixed,size=16777216", [(b"a", 1000)], "Cut"),
+    ]
+    for codec, pieces, kind in tries:
+        count = sum(len(piece) * times for piece, times in pieces)
+        wanted = (3, f"X 0 {kind}\nend {count}\n".encode(), f"stream 0 {kind}\n".encode())
+        for block in (65_536, 4):
+            in_small_memory(["frames", codec, f"--block={block}"], pieces, wanted)
+
+
+def quickest(words, stream):
+    """The least of three times."""
+    times = []
+    for _ in range(3):
+        begun = time.monotonic()
+        same("status", run(words, stream)[0], 0)
+        times.append(time.monotonic() - begun)
+    return min(times)
+
+
+def stays_linear(words, streams):
+    """Eight times the stream takes at most twenty times as long."""
+    times = [quickest(words, stream) for stream in streams]
+    if times[1] > 20 * max(times[0], 0.01):
+        sizes = [len(stream) for stream in streams]
+        raise Failure(f"{' '.join(words)}: {times[0]:.3f} s for {sizes[0]} bytes, {times[1]:.3f} s for {sizes[1]}")
 
 
 def linear_time():
-    """Eight times the frames take at most twenty times as long, for frames of each size."""
+    """Time is linear in the input, for frames of each size and by each codec, and for the smallest blocks."""
     for payload in (0, 1, 1024, 200_000):
-        times = []
-        for size in (1 << 20, 8 << 20):
-            stream = framed(4, [b"x" * payload] * (size // (payload + 4)))
-            best = None
-            for _ in range(3):
-                begun = time.monotonic()
-                same("status", run(frames_words(4, 4), stream)[0], 0)
-                took = time.monotonic() - begun
-                best = took if best is None else min(best, took)
-            times.append(best)
-        if times[1] > 20 * max(times[0], 0.01):
-            raise Failure(f"frames of {payload} bytes: {times[0]:.3f} s for 1 MiB, {times[1]:.3f} s for 8 MiB")
+        frame = framed(4, [b"x" * payload])
+        stays_linear(frames_words(4, 4), [frame * (size // len(frame)) for size in (1 << 20, 8 << 20)])
+    for payload in (1, 200_000):
+        for codec, end in (("line", b"\r\n"), ("delim,hex=0d0a|0a", b"\r\n"), ("fixed,size=100", b"")):
+            frame = (b"x" * payload + end) * 100
+            stays_linear(["frames", codec], [frame * (size // len(frame) or 1) for size in (1 << 20, 8 << 20)])
+    tries = [("length,field=1,strip=1", b"\2ab"), ("line", b"ab\n"), ("delim,hex=00", b"ab\0"), ("fixed,size=3", b"abc")]
+    for block, (codec, frame) in zip("1231", tries):
+        words = ["frames", codec, "--block", block]
+        stays_linear(words, [frame * (size // len(frame)) for size in (1 << 17, 1 << 20)])
 
 
 def launcher():
@@ -386,8 +508,9 @@ def first_starts():
         same("start", (child.returncode, out), (0, b"F 0 1 61\nend 2\n"))
 
 
-CHECKS = [worked_examples, bad_words, named_inputs, random_streams, odd_pieces, long_frames, real_files,
-          failing_outside, closed_streams, tiny_address_space, bounded_memory, linear_time, launcher, first_starts]
+CHECKS = [worked_examples, bad_words, named_inputs, random_frames, random_streams, odd_pieces, long_frames, real_files,
+          failing_outside, closed_streams, tiny_address_space, bounded_memory, hostile_streams, linear_time, launcher,
+          first_starts]
 
 
 def main():

@@ -5,9 +5,9 @@ use Rattle.std.proofs.lemmas.List.{take_more, map-append}
 use Rattle.std.proofs.lemmas.Grind.{flat_map-append}
 use Rattle.frame_head.specs.declared.codecs.Codec.{Codec}
 use Rattle.frame_head.specs.Units.{FramingUnit, units, ended}
-use Rattle.frame_length.specs.Decoding.{Decoding, StandsFor}
-use Rattle.frame_length.specs.declared.unit.FrameUnit.{FrameUnit}
-use Rattle.frame_length.specs.Units.{Grew, units_of, unit_of}
+use Rattle.frame_rule.specs.declared.unit.FrameUnit.{FrameUnit}
+use Rattle.frame_rule.specs.Decoding.{TakesIn, TakesEnd}
+use Rattle.frame_rule.specs.Units.{Grew, units_of, unit_of}
 
 -- the bytes of the first pieces and of the next
 pub joined_more : {X : Type 0} (f : X → List ℕ) (xs : List X) (i : ℕ) (d : X) → i < length xs
@@ -23,16 +23,16 @@ all_found {old = old} found g =
     ap (λ w. units_of w) g.haul ∙ map-append unit_of old g.added ∙ ap (λ w. w ++ units_of g.added) found ∙ sym g.units
 
 -- a piece was fed: `all` is fed now
-pub fed_on : (d : Decoding) (was codec : Codec) (h p all : List ℕ) (old new : List FrameUnit) → all ≡ h ++ p → was ≡ codec → units_of old ≡ units codec h
-    → StandsFor d (h ++ p) × Grew (units was h) (units was (h ++ p)) old new → StandsFor d all × (units_of new ≡ units codec all)
-fed_on d was codec h p all old new is same found next =
-    let S : List ℕ → Type 0 = λ t. StandsFor d t in
+pub fed_on : (stood now : List ℕ → Type 0) (was codec : Codec) (h p all : List ℕ) (old new : List FrameUnit) → all ≡ h ++ p → was ≡ codec → stood h → units_of old ≡ units codec h
+    → TakesIn stood now was p old new → now all × (units_of new ≡ units codec all)
+fed_on stood now was codec h p all old new is same stands found next =
+    let S : List ℕ → Type 0 = λ t. now t in
     let G : Codec → Type 0 = λ c. Grew (units c h) (units c (h ++ p)) old new in
-    (subst S (sym is) next.0, all_found found (subst G same next.1) ∙ ap (λ t. units codec t) (sym is))
+    (subst S (sym is) (next.stands h stands), all_found found (subst G same (next.grew h stands)) ∙ ap (λ t. units codec t) (sym is))
 
 -- the stream ended behind `all`
-pub ended_on : (was codec : Codec) (h all : List ℕ) (old new : List FrameUnit) → h ≡ all → was ≡ codec → units_of old ≡ units codec h
-    → Grew (units was h) (ended was h) old new → units_of new ≡ ended codec all
-ended_on was codec h all old new is same found grew =
+pub ended_on : (stood : List ℕ → Type 0) (was codec : Codec) (h all : List ℕ) (old new : List FrameUnit) → h ≡ all → was ≡ codec → stood h → units_of old ≡ units codec h
+    → TakesEnd stood was old new → units_of new ≡ ended codec all
+ended_on stood was codec h all old new is same stands found next =
     let G : Codec → Type 0 = λ c. Grew (units c h) (ended c h) old new in
-    all_found found (subst G same grew) ∙ ap (λ t. ended codec t) is
+    all_found found (subst G same (next h stands)) ∙ ap (λ t. ended codec t) is

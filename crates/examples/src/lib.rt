@@ -1,52 +1,61 @@
 //! A first use of the library: the units of a stream that comes in pieces.
 #![tactic(auto)]
 
-ghost use Rattle.std.specs.Prelude.{◌≡◌, ℕ, ◌+◌, ◌<◌, ◌^◌, List, ◌++◌, None, flat_map, length, IfOk, OnOk};
-ghost use Rattle.frame_head.specs.Checks.{fault_of};
-ghost use Rattle.frame_head.specs.Laws.{IsLength};
-ghost use Rattle.frame_head.specs.Units.{ended, units};
-ghost use Rattle.frame_length.specs.Decoding.{StandsFor};
-ghost use Rattle.frame_length.specs.Units.{Grew, units_of};
+ghost use Rattle.std.specs.Prelude.{◌≡◌, ℕ, ◌+◌, ◌<◌, ◌^◌, List, [], ◌++◌, None, flat_map, length, IfOk, OnOk};
+ghost use Rattle.frame_head.specs.Units.{ended};
+ghost use Rattle.frame_rule.specs.Decoding.{TakesIn};
+ghost use Rattle.frame_rule.specs.Units.{units_of};
 
-use frame_length::{Chain, Codec, FeedFault, FrameUnit, LengthDecoder};
+use frame_rule::{Decoder, FeedFault, FrameUnit, Haul};
+use iobuf_chain::Chain;
+use iobuf_node::IoBuf;
+use share_count::Mint;
 use std::alloc::Global;
 
 #[cfg(test)]
 mod tests;
 
-/// Cuts a stream that comes in pieces into frames, and answers its units.
-pub fn decode(alloc: Global, codec: Codec, pieces: &[&[u8]]) -> Result<Vec<FrameUnit>, FeedFault>
-    requires codec { (fault_of codec ≡ None) × IsLength codec }
+/// Cuts a stream that comes in pieces into frames, by a decoder that was fed nothing, and answers its units.
+pub fn decode<D: Decoder>(
+    alloc: Global,
+    mut decoder: D,
+    pieces: &[&[u8]],
+) -> Result<Vec<FrameUnit>, FeedFault>
+    requires fresh { D.stands decoder [] }
     requires room { length (flat_map (λ p. p.now) pieces.now) < 2 ^ 62 }
     // However the stream is cut, its units are those of the grammar.
-    ensures units { IfOk result (λ found. units_of found.items ≡ ended codec (flat_map (λ p. p.now) pieces.now)) }
+    ensures units { IfOk result (λ found. units_of found.items
+        ≡ ended (D.state decoder).codec (flat_map (λ p. p.now) pieces.now)) }
 {
-    let mut decoder = LengthDecoder::new(alloc, codec);
-    let mut found = Vec::new(alloc);
-    'pieces: for piece in pieces {
-        feed_copy(alloc, &mut decoder, piece, &mut found)?;
+    let mut haul = Haul::new(alloc);
+    let mut mint = Mint::new();
+    'pieces: for bytes in pieces {
+        feed_copy(alloc, &mut decoder, bytes, &mut haul, &mut mint)?;
     }
-    decoder.end(alloc, &mut found)?;
-    Ok(found)
+    decoder.end(alloc, &mut haul, &mut mint)?;
+    Ok(haul.units)
 }
 
-// Feeds a copy of some bytes.
-fn feed_copy(
+// Feeds a copy of some bytes, as a chain of one node.
+fn feed_copy<D: Decoder>(
     alloc: Global,
-    decoder: &mut LengthDecoder,
+    decoder: &mut D,
     bytes: &[u8],
-    found: &mut Vec<FrameUnit>,
+    haul: &mut Haul,
+    mint: &mut Mint,
 ) -> Result<(), FeedFault>
-    requires { decoder.old.fed + length bytes.now < 2 ^ 62 }
-    ensures units { OnOk result ((h : List ℕ) → StandsFor decoder.old h → StandsFor decoder.new (h ++ bytes.now)
-        × Grew (units decoder.old.codec h) (units decoder.old.codec (h ++ bytes.now)) found.old.items found.new.items) }
-    ensures codec { decoder.new.codec ≡ decoder.old.codec }
+    requires room { (D.state decoder.old).fed + length bytes.now < 2 ^ 62 }
+    requires taken { haul.old.refused ≡ None }
+    ensures units { OnOk result (TakesIn (D.stands decoder.old) (D.stands decoder.new) (D.state decoder.old).codec
+        bytes.now haul.old.units.items haul.new.units.items) }
+    ensures codec { OnOk result ((D.state decoder.new).codec ≡ (D.state decoder.old).codec) }
+    ensures taken { OnOk result (haul.new.refused ≡ None) }
 {
-    let Ok(copy) = Vec::from_slice(alloc, bytes) else {
+    let Ok(node) = IoBuf::copy(alloc, bytes, 0, 0, mint) else {
         return Err(FeedFault::NoMemory);
     };
-    match Chain::plain(alloc, copy) {
-        Ok(piece) => decoder.feed(alloc, piece, found),
+    match Chain::of(alloc, node) {
+        Ok(piece) => decoder.feed(alloc, piece, haul, mint),
         Err(_) => Err(FeedFault::NoMemory),
     }
 }

@@ -1,13 +1,15 @@
 ghost use Rattle.std.specs.Prelude.{◌≡◌, None};
 ghost use Rattle.frame_head.specs.Checks.{fault_of};
-ghost use Rattle.frame_head.specs.Laws.{IsLength};
 
 use super::*;
+use any_scanner::AnyScanner;
+use frame_head::{Codec, LineEnd};
+use frame_rule::Framer;
 use std::test::Fail;
 
 // Frames with their length in a first byte, which isn't handed on.
 fn by_first_byte() -> Codec
-    ensures { (fault_of result ≡ None) × IsLength result }
+    ensures { fault_of result ≡ None }
 {
     Codec::Length {
         field: 1,
@@ -19,6 +21,16 @@ fn by_first_byte() -> Codec
     }
 }
 
+fn lines() -> Codec
+    ensures { fault_of result ≡ None }
+{
+    Codec::Line {
+        ending: LineEnd::Any,
+        strip: true,
+        max: 3,
+    }
+}
+
 // A unit as its offset and, of a frame, its length.
 fn outline(unit: &FrameUnit) -> (u64, Option<usize>) {
     match unit {
@@ -27,12 +39,9 @@ fn outline(unit: &FrameUnit) -> (u64, Option<usize>) {
     }
 }
 
-// Whether the units are a frame of three bytes, one of one byte, and a cut one at the offset 6.
-fn are_expected(found: &[FrameUnit]) -> bool {
-    found.len() == 3
-        && outline(&found[0]) == (0, Some(3))
-        && outline(&found[1]) == (4, Some(1))
-        && outline(&found[2]) == (6, None)
+// Whether the units are these.
+fn are(found: &[FrameUnit], outlines: &[(u64, Option<usize>)]) -> bool {
+    found.len() == outlines.len() && (0..found.len()).all(|i| outline(&found[i]) == outlines[i])
 }
 
 #[test]
@@ -40,13 +49,17 @@ fn frames_do_not_depend_on_the_cuts(rt: HostRuntime) -> Result<(), Fail> {
     let alloc = rt.alloc();
     let whole: [&[u8]; 1] = [b"\x03abc\x01x\x02y"];
     let cut: [&[u8]; 3] = [b"\x03a", b"bc\x01", b"x\x02y"];
-    let Ok(found) = decode(alloc, by_first_byte(), &whole) else {
-        return Err("no memory".into());
-    };
-    assert!(rt; are_expected(&found));
-    let Ok(found) = decode(alloc, by_first_byte(), &cut) else {
-        return Err("no memory".into());
-    };
-    assert!(rt; are_expected(&found));
+    let outlines = [(0, Some(3)), (4, Some(1)), (6, None)];
+    for pieces in [whole.as_slice(), cut.as_slice()] {
+        let found = decode(alloc, Framer::<AnyScanner>::new(by_first_byte()), pieces)?;
+        assert!(rt; are(&found, &outlines));
+    }
+    let whole: [&[u8]; 1] = [b"abc\r\nabcd\n\nx"];
+    let cut: [&[u8]; 4] = [b"abc\r", b"\nabc", b"d\n", b"\nx"];
+    let outlines = [(0, Some(3)), (5, None), (10, Some(0)), (11, Some(1))];
+    for pieces in [whole.as_slice(), cut.as_slice()] {
+        let found = decode(alloc, Framer::<AnyScanner>::new(lines()), pieces)?;
+        assert!(rt; are(&found, &outlines));
+    }
     Ok(())
 }

@@ -1,5 +1,2 @@
 mod Weights
-mod Looks
-mod Steps
-mod Chains
 mod Aims

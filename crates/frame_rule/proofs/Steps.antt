@@ -1,5 +1,5 @@
 -- What steps of a decoder do to the streams for which it stands.
-use Rattle.std.proofs.Common.{◌≡◌, ℕ, zero, suc, ◌+◌, ◌-◌, ◌<◌, ◌≤◌, Bool, true, false, List, [], ◌∷◌, ◌++◌, Option, Some, None, length, take, refl, ap, sym, subst, ◌∙◌, append_assoc, append-nil, arith, length-append, length-take-le}
+use Rattle.std.proofs.Common.{◌≡◌, ℕ, zero, suc, ◌+◌, ◌-◌, ◌<◌, ◌≤◌, Bool, true, false, List, [], ◌∷◌, ◌++◌, Option, Some, None, length, take, if◌then◌else◌, refl, ap, sym, subst, ◌∙◌, append_assoc, append-nil, arith, length-append, length-take-le}
 use Rattle.buffer_model.specs.Segment.{bytes_of}
 use Rattle.frame_head.specs.declared.codecs.Codec.{Codec}
 use Rattle.frame_head.specs.declared.codecs.FaultKind.{FaultKind}
@@ -12,7 +12,7 @@ use Rattle.frame_head.proofs.Cutting.{absorbed, passed, extends}
 use Rattle.frame_rule.specs.declared.scanner.Scan.{Scan}
 use Rattle.frame_rule.specs.declared.scanner.Scan.TheVariants.{Open, Hopeless, Frame, Fault}
 use Rattle.frame_rule.specs.Scanning.{IsNoFrame, IsFault, IsHopeless, Scanned, inner, last_of, most_kept}
-use Rattle.frame_rule.specs.Decoding.{Framing, StandsFor, Took, Halted, fresh}
+use Rattle.frame_rule.specs.Framing.{Framing, StandsFor, Took, Halted, fresh}
 
 -- what the end adds where nothing is open, and where something is
 nothing_open : (c : Codec) (at : ℕ) (r : List ℕ) → length r ≡ 0 → units_of_end c at r ≡ []
@@ -141,6 +141,34 @@ module _ {S O : Type 0} (codec_of : S → Codec) (saw : S → List ℕ → Type 
     fed = ap (λ k. old.fed + k) (sym size);
   }
 
+  -- other nodes of the same bytes are kept
+  pub stands_on : (d e : Framing S O) (h : List ℕ) → e ≡ record d { kept = e.kept } → bytes_of e.kept ≡ bytes_of d.kept → StandsFor codec_of saw d h → StandsFor codec_of saw e h
+  stands_on d e h is same st =
+      let P : Framing S O → Type 0 = λ w. StandsFor codec_of saw w h in
+      subst P (sym is) (record {
+        alive = st.alive;
+        fed = st.fed;
+        unread = st.unread;
+        seen = st.seen;
+        skip = st.skip;
+        kept = λ not. same ∙ st.kept not;
+        none = λ gone. same ∙ st.none gone;
+        hopeless = st.hopeless;
+        bounded = omega (arith, ap length same, st.bounded);
+      })
+
+  -- how many bytes are kept
+  pub kept_bytes : (d : Framing S O) (h : List ℕ) → StandsFor codec_of saw d h → (lost : Bool) → d.lost ≡ lost → length (bytes_of d.kept) ≡ (if lost then 0 else d.unread)
+  kept_bytes d h st false is = ap length (st.kept is) ∙ sym st.unread
+  kept_bytes d h st true is = ap length (st.none is)
+
+  -- nothing is kept where bytes are skipped
+  pub skips_none : (d : Framing S O) (h : List ℕ) → StandsFor codec_of saw d h → 0 < d.skip → (lost : Bool) → d.lost ≡ lost → bytes_of d.kept ≡ []
+  skips_none d h st some false is =
+      let p = passed (codec_of d.scanner) (steady_for d h st) h [] (omega (arith, st.skip)) (omega arith) in
+      st.kept is ∙ p.1
+  skips_none d h st some true is = st.none is
+
   -- what bytes that their head uses all do to a stream for which a decoder stands
   settled : (d : Framing S O) (h q : List ℕ) (u : Head) → StandsFor codec_of saw d h → d.skip ≡ 0 → head (codec_of d.scanner) (rest (codec_of d.scanner) h ++ q) ≡ u
       → UsesAtLeast (length (rest (codec_of d.scanner) h ++ q)) u
@@ -160,7 +188,7 @@ module _ {S O : Type 0} (codec_of : S → Codec) (saw : S → List ℕ → Type 
   -- the unit goes on behind all bytes
   pub took_open : (old new : Framing S O) (s : List ℕ) → old.skip ≡ 0 → Finds old new.scanner s Open → codec_of new.scanner ≡ codec_of old.scanner
       → new.dead ≡ false → new.fed ≡ old.fed + length s → new.unread ≡ old.unread + length s → new.lost ≡ old.lost → new.skip ≡ 0
-      → (old.lost ≡ false → bytes_of new.kept ≡ bytes_of old.kept ++ s) → (old.lost ≡ true → new.kept ≡ []) → Took codec_of saw old new s []
+      → (old.lost ≡ false → bytes_of new.kept ≡ bytes_of old.kept ++ s) → (old.lost ≡ true → bytes_of new.kept ≡ []) → Took codec_of saw old new s []
   took_open old new s still finds codec alive fed unread lost skip kept none = record {
     stands = λ h st.
         let c = codec_of old.scanner in
@@ -182,7 +210,7 @@ module _ {S O : Type 0} (codec_of : S → Codec) (saw : S → List ℕ → Type 
               let K : Codec → Type 0 = λ k. H k (rest c h ++ (s ++ t)) in
               let L : List ℕ → Type 0 = λ w. H (codec_of new.scanner) w in
               subst L joined (subst K (sym codec) hope);
-          bounded = let M : Codec → Type 0 = λ k. length (bytes_of new.kept) ≤ most_kept k in subst M (sym codec) (bounded_by c (bytes_of old.kept) (rest c h) s (bytes_of new.kept) old.lost old.lost refl (λ not. st.kept not) kept (λ gone. ap (λ k. bytes_of k) (none gone)) told.1);
+          bounded = let M : Codec → Type 0 = λ k. length (bytes_of new.kept) ≤ most_kept k in subst M (sym codec) (bounded_by c (bytes_of old.kept) (rest c h) s (bytes_of new.kept) old.lost old.lost refl (λ not. st.kept not) kept (λ gone. none gone) told.1);
         };
     grew = λ h st. (settled old h s More st still (finds (rest (codec_of old.scanner) h) (sym st.unread) st.seen).0 tt).0;
     codec = codec;
@@ -191,7 +219,7 @@ module _ {S O : Type 0} (codec_of : S → Codec) (saw : S → List ℕ → Type 
 
   -- the unit goes on behind all bytes, and becomes no frame
   pub took_hopeless : (old new : Framing S O) (s : List ℕ) → old.skip ≡ 0 → Finds old new.scanner s Hopeless → codec_of new.scanner ≡ codec_of old.scanner
-      → new.dead ≡ false → new.fed ≡ old.fed + length s → new.unread ≡ old.unread + length s → new.lost ≡ true → new.skip ≡ 0 → new.kept ≡ [] → Took codec_of saw old new s []
+      → new.dead ≡ false → new.fed ≡ old.fed + length s → new.unread ≡ old.unread + length s → new.lost ≡ true → new.skip ≡ 0 → bytes_of new.kept ≡ [] → Took codec_of saw old new s []
   took_hopeless old new s still finds codec alive fed unread lost skip none = record {
     stands = λ h st.
         let c = codec_of old.scanner in
@@ -209,7 +237,7 @@ module _ {S O : Type 0} (codec_of : S → Codec) (saw : S → List ℕ → Type 
           kept = λ not. absurd (let clash : true ≡ false = sym lost ∙ not in cc clash);
           none = λ gone. none;
           hopeless = λ gone. subst L (sym left) (subst K (sym codec) told.1);
-          bounded = omega (arith, ap (λ k. length (bytes_of k)) none);
+          bounded = omega (arith, ap length none);
         };
     grew = λ h st. (settled old h s More st still (finds (rest (codec_of old.scanner) h) (sym st.unread) st.seen).0 tt).0;
     codec = codec;
@@ -217,7 +245,7 @@ module _ {S O : Type 0} (codec_of : S → Codec) (saw : S → List ℕ → Type 
   }
 
   -- a decoder that has nothing open stands for a stream whose units use all of it, or more
-  stands_empty : (new : Framing S O) (c : Codec) (w : List ℕ) → codec_of new.scanner ≡ c → new.dead ≡ false → new.fed ≡ length w → new.unread ≡ 0 → new.kept ≡ [] → new.lost ≡ false → saw new.scanner []
+  stands_empty : (new : Framing S O) (c : Codec) (w : List ℕ) → codec_of new.scanner ≡ c → new.dead ≡ false → new.fed ≡ length w → new.unread ≡ 0 → bytes_of new.kept ≡ [] → new.lost ≡ false → saw new.scanner []
       → rest c w ≡ [] → new.skip ≡ overrun c w → StandsFor codec_of saw new w
   stands_empty new c w codec alive fed unread none lost seen empty skip =
       let left : rest (codec_of new.scanner) w ≡ [] = ap (λ k. rest k w) codec ∙ empty in
@@ -227,14 +255,14 @@ module _ {S O : Type 0} (codec_of : S → Codec) (saw : S → List ℕ → Type 
         unread = unread ∙ sym (ap (λ v. length v) left);
         seen = subst W (sym left) seen;
         skip = skip ∙ sym (ap (λ k. overrun k w) codec);
-        kept = λ not. ap (λ v. bytes_of v) none ∙ sym left;
+        kept = λ not. none ∙ sym left;
         none = λ gone. none;
         hopeless = λ gone. absurd (let clash : true ≡ false = sym gone ∙ lost in cc clash);
-        bounded = omega (arith, ap (λ k. length (bytes_of k)) none);
+        bounded = omega (arith, ap length none);
       }
 
   -- hopeless bytes begin no frame
-  not_lost : (old : Framing S O) (h s : List ℕ) (used front back : ℕ) (after : S) → StandsFor codec_of saw old h → (lost : Bool) → old.lost ≡ lost
+  pub not_lost : (old : Framing S O) (h s : List ℕ) (used front back : ℕ) (after : S) → StandsFor codec_of saw old h → (lost : Bool) → old.lost ≡ lost
       → Scanned (codec_of old.scanner) (rest (codec_of old.scanner) h) s (Frame used front back) (saw after) → old.lost ≡ false
   not_lost old h s used front back after st false is told = is
   not_lost old h s used front back after st true is told =
@@ -264,7 +292,7 @@ module _ {S O : Type 0} (codec_of : S → Codec) (saw : S → List ℕ → Type 
   -- the unit ends as a frame
   pub took_frame : (old new : Framing S O) (used front back : ℕ) (s bytes : List ℕ) → used ≤ length s → old.skip ≡ 0 → Finds old new.scanner s (Frame used front back) → codec_of new.scanner ≡ codec_of old.scanner
       → bytes ≡ inner front back (bytes_of old.kept ++ take used s)
-      → new.dead ≡ false → new.fed ≡ old.fed + used → new.unread ≡ 0 → new.kept ≡ [] → new.lost ≡ old.lost → new.skip ≡ 0
+      → new.dead ≡ false → new.fed ≡ old.fed + used → new.unread ≡ 0 → bytes_of new.kept ≡ [] → new.lost ≡ old.lost → new.skip ≡ 0
       → Took codec_of saw old new (take used s) (FrameAt (old.fed - old.unread) bytes ∷ [])
   took_frame old new used front back s bytes within still finds codec content alive fed unread none lost skip = record {
     stands = λ h st.
@@ -291,7 +319,7 @@ module _ {S O : Type 0} (codec_of : S → Codec) (saw : S → List ℕ → Type 
 
   -- the unit is a fault
   pub took_fault : (old new : Framing S O) (kind : FaultKind) (used over : ℕ) (s : List ℕ) → used ≤ length s → old.skip ≡ 0 → Finds old new.scanner s (Fault kind used over) → codec_of new.scanner ≡ codec_of old.scanner
-      → new.dead ≡ false → new.fed ≡ old.fed + used → new.unread ≡ 0 → new.kept ≡ [] → new.lost ≡ false → new.skip ≡ over
+      → new.dead ≡ false → new.fed ≡ old.fed + used → new.unread ≡ 0 → bytes_of new.kept ≡ [] → new.lost ≡ false → new.skip ≡ over
       → Took codec_of saw old new (take used s) (FaultAt (old.fed - old.unread) kind ∷ [])
   took_fault old new kind used over s within still finds codec alive fed unread none lost skip = record {
     stands = λ h st.
@@ -336,7 +364,7 @@ module _ {S O : Type 0} (codec_of : S → Codec) (saw : S → List ℕ → Type 
       → ended (codec_of d.scanner) h ≡ units (codec_of d.scanner) h ++ FaultAt (d.fed - d.unread) kind ∷ []
   ended_fault d h kind st some finds = last_open d h (Some kind) st some finds
 
-  kept_at_end : (d : Framing S O) (h : List ℕ) (lost : Bool) → d.lost ≡ lost → StandsFor codec_of saw d h
+  pub kept_at_end : (d : Framing S O) (h : List ℕ) (lost : Bool) → d.lost ≡ lost → StandsFor codec_of saw d h
       → ((r : List ℕ) (at : ℕ) → length r ≡ d.unread → saw d.scanner r → last_unit (codec_of d.scanner) at r ≡ last_of at r None) → bytes_of d.kept ≡ rest (codec_of d.scanner) h
   kept_at_end d h false is st finds = st.kept is
   kept_at_end d h true is st finds =

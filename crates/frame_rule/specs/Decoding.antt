@@ -1,48 +1,47 @@
--- What a decoder keeps, and the streams for which it stands.
-use Rattle.std.specs.Prelude.{◌≡◌, ℕ, ◌+◌, ◌≤◌, Bool, true, false, List, [], ◌++◌, length}
-use Rattle.buffer_model.specs.Segment.{Segment, bytes_of}
+-- What a decoder is seen as, and what its calls do.
+use Rattle.std.specs.Prelude.{◌≡◌, ℕ, ◌+◌, Bool, true, false, List, [], ◌++◌, Result, Ok, Err}
+use Rattle.storage.specs.declared.release.NoOwner.{NoOwner}
+use Rattle.buffer_model.specs.Segment.{Segment}
 use Rattle.frame_head.specs.declared.codecs.Codec.{Codec}
-use Rattle.frame_head.specs.Units.{FramingUnit, units, rest, overrun}
-use Rattle.frame_rule.specs.Scanning.{IsHopeless, most_kept}
+use Rattle.frame_head.specs.Units.{units, ended}
+use Rattle.frame_rule.specs.declared.decoder.FeedFault.{FeedFault}
+use Rattle.frame_rule.specs.declared.decoder.FeedFault.TheVariants.{NoMemory, Dead}
+use Rattle.frame_rule.specs.declared.unit.FrameUnit.{FrameUnit}
+use Rattle.frame_rule.specs.Units.{Grew, GrewPartly}
 
--- a decoder: its scanner, how many bytes it was fed, how many of them are an open unit, the nodes that it keeps of those, whether it keeps none because they are hopeless, how many of the next bytes it skips, and whether it is dead
-pub record Framing (S O : Type 0) : Type 0 where
-  pub scanner : S
+-- its codec, how many bytes it was fed, the nodes of the chains that it keeps, and whether it is dead
+pub record Decoding : Type 0 where
+  pub codec : Codec
   pub fed : ℕ
-  pub unread : ℕ
-  pub kept : List (Segment O)
-  pub lost : Bool
-  pub skip : ℕ
+  pub kept : List (Segment NoOwner)
   pub dead : Bool
 
 -- a decoder that was fed nothing
-abbrev pub fresh : {S O : Type 0} → S → Framing S O
-fresh scanner = record { scanner = scanner; fed = 0; unread = 0; kept = []; lost = false; skip = 0; dead = false }
+abbrev pub fresh : Codec → Decoding
+fresh codec = record { codec = codec; fed = 0; kept = []; dead = false }
 
-module _ {S O : Type 0} (codec_of : S → Codec) (saw : S → List ℕ → Type 0) where
-  -- a decoder that isn't dead stands for the bytes that it was fed: its scanner has seen what is an open unit of them, and it keeps those bytes, or none where no frame can come of them
-  pub record StandsFor (d : Framing S O) (h : List ℕ) : Type 0 where
-    pub alive : d.dead ≡ false
-    pub fed : d.fed ≡ length h
-    pub unread : d.unread ≡ length (rest (codec_of d.scanner) h)
-    pub seen : saw d.scanner (rest (codec_of d.scanner) h)
-    pub skip : d.skip ≡ overrun (codec_of d.scanner) h
-    pub kept : d.lost ≡ false → bytes_of d.kept ≡ rest (codec_of d.scanner) h
-    pub none : d.lost ≡ true → d.kept ≡ []
-    pub hopeless : d.lost ≡ true → IsHopeless (codec_of d.scanner) (rest (codec_of d.scanner) h)
-    pub bounded : length (bytes_of d.kept) ≤ most_kept (codec_of d.scanner)
+-- a decoder before and after a piece of n bytes, and the answer: it was fed them; or memory was refused, and it is dead; or it was dead before, and nothing changed
+abbrev pub Fed : {U : Type 0} → ℕ → Decoding → Decoding → Result U FeedFault → Type 0
+Fed n old new (Ok u) = (old.dead ≡ false) × (new ≡ record old { fed = old.fed + n; kept = new.kept })
+Fed n old new (Err NoMemory) =
+    (old.dead ≡ false) × (new ≡ record old { fed = new.fed; kept = new.kept; dead = true })
+Fed n old new (Err Dead) = (old.dead ≡ true) × (new ≡ old)
 
-  -- a decoder took the bytes `p`, which add these units
-  pub record Took (old new : Framing S O) (p : List ℕ) (added : List FramingUnit) : Type 0 where
-    pub stands : (h : List ℕ) → StandsFor old h → StandsFor new (h ++ p)
-    pub grew : (h : List ℕ) → StandsFor old h
-        → units (codec_of old.scanner) (h ++ p) ≡ units (codec_of old.scanner) h ++ added
-    pub codec : codec_of new.scanner ≡ codec_of old.scanner
-    pub fed : new.fed ≡ old.fed + length p
+-- a decoder before and after the end of the stream, and the answer: it keeps nothing and is dead; or memory was refused, and it is dead; or it was dead before, and nothing changed
+abbrev pub Ended : {U : Type 0} → Decoding → Decoding → Result U FeedFault → Type 0
+Ended old new (Ok u) = (old.dead ≡ false) × (new ≡ record old { kept = []; dead = true })
+Ended old new (Err NoMemory) = (old.dead ≡ false) × (new ≡ record old { kept = new.kept; dead = true })
+Ended old new (Err Dead) = (old.dead ≡ true) × (new ≡ old)
 
-  -- a decoder took a part of the bytes `p`, which adds these units, and is dead
-  pub record Halted (old new : Framing S O) (p : List ℕ) (added : List FramingUnit) : Type 0 where
-    pub grew : (h : List ℕ) → StandsFor old h → (missing : List FramingUnit)
-        × (units (codec_of old.scanner) (h ++ p) ≡ (units (codec_of old.scanner) h ++ added) ++ missing)
-    pub codec : codec_of new.scanner ≡ codec_of old.scanner
-    pub dead : new.dead ≡ true
+-- a decoder that stood for some bytes took the bytes p: it stands for both, and exactly the units were added that p makes whole
+pub record TakesIn (stood now : List ℕ → Type 0) (codec : Codec) (p : List ℕ) (old new : List FrameUnit) : Type 0 where
+  pub stands : (h : List ℕ) → stood h → now (h ++ p)
+  pub grew : (h : List ℕ) → stood h → Grew (units codec h) (units codec (h ++ p)) old new
+
+-- the first of the units were added that p makes whole
+abbrev pub TakesPartly : (List ℕ → Type 0) → Codec → List ℕ → List FrameUnit → List FrameUnit → Type 0
+TakesPartly stood codec p old new = (h : List ℕ) → stood h → GrewPartly (units codec h) (units codec (h ++ p)) old new
+
+-- exactly the units were added that the end of the stream adds
+abbrev pub TakesEnd : (List ℕ → Type 0) → Codec → List FrameUnit → List FrameUnit → Type 0
+TakesEnd stood codec old new = (h : List ℕ) → stood h → Grew (units codec h) (ended codec h) old new

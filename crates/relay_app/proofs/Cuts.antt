@@ -4,10 +4,10 @@ use Rattle.std.specs.Result.{OnErr, OnOk, is_err}
 use Rattle.frame_head.specs.declared.codecs.Codec.{Codec}
 use Rattle.frame_head.specs.Laws.{Extends}
 use Rattle.frame_head.specs.Units.{FramingUnit, units, ended, units_of_end, rest}
-use Rattle.frame_length.specs.declared.unit.FrameUnit.{FrameUnit}
-use Rattle.frame_length.specs.Decoding.{Decoding, StandsFor}
-use Rattle.frame_length.specs.Units.{Grew, units_of}
-use Rattle.plain_chain.specs.Segments.{bytes_of}
+use Rattle.frame_rule.specs.declared.decoder.FeedFault.{FeedFault}
+use Rattle.frame_rule.specs.declared.unit.FrameUnit.{FrameUnit}
+use Rattle.frame_rule.specs.Decoding.{Decoding, Fed, TakesIn, TakesEnd}
+use Rattle.frame_rule.specs.Units.{Grew, units_of}
 use Rattle.relay_ports.specs.States.{SinkState}
 use Rattle.buffered_io.specs.declared.reading.Stop.{Stop}
 use Rattle.buffered_io.specs.Writing.{Waiting, PrintsTo, outlet}
@@ -23,68 +23,72 @@ use Rattle.relay_app.specs.Text.{unit_line, unit_lines, end_line}
 use Rattle.relay_app.proofs.Noted.{fault_after-append, fault_after_nothing, first_fault-append}
 use Rattle.relay_app.proofs.Texts.{lines-append}
 
--- no units were taken
-pub takes_nothing : (c : Cutting) (v : SinkState) → TakesUnits [] c v c v
-takes_nothing c v = record { state = λ i. record c { fault = fault_after_nothing c.fault i }; prints = prints_nothing (outlet c.waiting v) }
+module _ {D : Type 0} where
+  -- no units were taken
+  pub takes_nothing : (c : Cutting D) (v : SinkState) → TakesUnits [] c v c v
+  takes_nothing c v = record { state = λ i. record c { fault = fault_after_nothing c.fault i }; prints = prints_nothing (outlet c.waiting v) }
 
--- one unit more was taken
-pub takes_more : {us : List FramingUnit} {c : Cutting} {v : SinkState} (dec : Decoding) (p q : Waiting) (f g : Option StreamFault) (read : ℕ) {u t : SinkState} (unit : FramingUnit)
-    → TakesUnits us c v (record { decoding = dec; waiting = p; fault = f; read = read }) u
-    → PrintsTo (unit_line unit) (outlet p u) (outlet q t) → g ≡ fault_after f (unit ∷ [])
-    → TakesUnits (us ++ unit ∷ []) c v (record { decoding = dec; waiting = q; fault = g; read = read }) t
-takes_more {us} {c} {v} dec p q f g read {u} {t} unit takes prints fault = record {
-  state = λ i. record {
-    decoding = ap (λ (x : Cutting). x.decoding) takes.state i;
-    waiting = q;
-    fault = (fault ∙ ap (λ x. fault_after x (unit ∷ [])) (ap (λ (x : Cutting). x.fault) takes.state) ∙ fault_after-append c.fault us (unit ∷ [])) i;
-    read = ap (λ (x : Cutting). x.read) takes.state i;
-  };
-  prints = prints_same (ap (λ w. unit_lines us ++ w) (sym (append-nil (unit_line unit))) ∙ sym (lines-append us (unit ∷ []))) (prints_both takes.prints prints);
-}
+  -- one unit more was taken
+  pub takes_more : {us : List FramingUnit} {c : Cutting D} {v : SinkState} (dec : D) (p q : Waiting) (f g : Option StreamFault) (read : ℕ) {u t : SinkState} (unit : FramingUnit)
+      → TakesUnits us c v (record { decoder = dec; waiting = p; fault = f; read = read }) u
+      → PrintsTo (unit_line unit) (outlet p u) (outlet q t) → g ≡ fault_after f (unit ∷ [])
+      → TakesUnits (us ++ unit ∷ []) c v (record { decoder = dec; waiting = q; fault = g; read = read }) t
+  takes_more {us} {c} {v} dec p q f g read {u} {t} unit takes prints fault = record {
+    state = λ i. record {
+      decoder = ap (λ (x : Cutting D). x.decoder) takes.state i;
+      waiting = q;
+      fault = (fault ∙ ap (λ x. fault_after x (unit ∷ [])) (ap (λ (x : Cutting D). x.fault) takes.state) ∙ fault_after-append c.fault us (unit ∷ [])) i;
+      read = ap (λ (x : Cutting D). x.read) takes.state i;
+    };
+    prints = prints_same (ap (λ w. unit_lines us ++ w) (sym (append-nil (unit_line unit))) ∙ sym (lines-append us (unit ∷ []))) (prints_both takes.prints prints);
+  }
 
--- more units were printed and noted
-pub units_on : {w : SinkState} {us vs all : List FramingUnit} {c d : Cutting} {v u : SinkState} → HasUnits w us c v → TakesUnits vs c v d u → all ≡ us ++ vs → HasUnits w all d u
-units_on {w} {us} {vs} {all} {c} {d} {v} {u} has takes is = record {
-  printed = prints_same (sym (lines-append us vs) ∙ ap unit_lines (sym is)) (prints_both has.printed takes.prints);
-  noted = ap (λ (x : Cutting). x.fault) takes.state ∙ ap (λ f. fault_after f vs) has.noted ∙ sym (first_fault-append us vs) ∙ ap first_fault (sym is);
-}
+  -- more units were printed and noted
+  pub units_on : {w : SinkState} {us vs all : List FramingUnit} {c d : Cutting D} {v u : SinkState} → HasUnits w us c v → TakesUnits vs c v d u → all ≡ us ++ vs → HasUnits w all d u
+  units_on {w} {us} {vs} {all} {c} {d} {v} {u} has takes is = record {
+    printed = prints_same (sym (lines-append us vs) ∙ ap unit_lines (sym is)) (prints_both has.printed takes.prints);
+    noted = ap (λ (x : Cutting D). x.fault) takes.state ∙ ap (λ f. fault_after f vs) has.noted ∙ sym (first_fault-append us vs) ∙ ap first_fault (sym is);
+  }
 
 -- the units that a decoder added
 added : {some all : List FramingUnit} {start found : List FrameUnit} → start ≡ [] → Grew some all start found → all ≡ some ++ units_of found
 added {some} {all} {start} {found} none grew = grew.units ∙ ap (λ w. some ++ units_of w) (sym (grew.haul ∙ ap (λ w. w ++ grew.added) none))
 
--- a block was cut
-pub cut_on : {codec : Codec} {w : SinkState} {h : List ℕ} (dec after : Decoding) (p : Waiting) (f : Option StreamFault) (read : ℕ) {mid : Cutting} {v u : SinkState} (bytes : List ℕ) {chain : List (List ℕ)} {start found shown : List FrameUnit} (count : ℕ)
-    → start ≡ []
-    → HasCut codec w h (record { decoding = dec; waiting = p; fault = f; read = read }) v
-    → chain ≡ bytes ∷ [] → after.codec ≡ dec.codec
-    → StandsFor after (h ++ bytes_of chain) × Grew (units dec.codec h) (units dec.codec (h ++ bytes_of chain)) start found
-    → shown ≡ found → TakesUnits (units_of shown) (record { decoding = after; waiting = p; fault = f; read = read }) v mid u → count ≡ length bytes
-    → HasCut codec w (h ++ bytes) (record mid { read = mid.read + count }) u
-cut_on {codec} {w} {h} dec after p f read {mid} {v} {u} bytes {chain} {start} {found} {shown} count none s is kept fed same_found takes counted =
-    let same : bytes_of chain ≡ bytes = ap bytes_of is ∙ append-nil bytes in
-    let S : List ℕ → Type 0 = λ t. StandsFor after (h ++ t) in
-    let G : List ℕ → Type 0 = λ t. Grew (units dec.codec h) (units dec.codec (h ++ t)) start found in
-    let C : Codec → Type 0 = λ c. Grew (units c h) (units c (h ++ bytes)) start found in
-    let M : Decoding → Type 0 = λ d. StandsFor d (h ++ bytes) in
-    let decoded : mid.decoding ≡ after = ap (λ (x : Cutting). x.decoding) takes.state in
-    let has : HasUnits w (units codec (h ++ bytes)) mid u = units_on {c = record { decoding = after; waiting = p; fault = f; read = read }} (record { printed = s.found.printed; noted = s.found.noted }) takes (added none (subst C s.codec_same (subst G same fed.1)) ∙ ap (λ us. units codec h ++ units_of us) (sym same_found)) in
-    record {
-      codec_same = ap (λ (d : Decoding). d.codec) decoded ∙ kept ∙ s.codec_same;
-      stands = subst M (sym decoded) (subst S same fed.0);
-      found = record { printed = has.printed; noted = has.noted };
-      read = ap (λ n. n + count) (ap (λ (x : Cutting). x.read) takes.state ∙ s.read) ∙ ap (λ n. length h + n) counted ∙ sym (length-append h bytes);
-    }
+-- a decoder that took a piece goes by the same codec
+pub codec_stays : {U : Type 0} (n : ℕ) (old new : Decoding) (r : Result U FeedFault) → false ≡ is_err r → Fed n old new r → new.codec ≡ old.codec
+codec_stays n old new (Ok u) is fed = ap (λ (d : Decoding). d.codec) fed.1
+codec_stays n old new (Err e) is fed = absurd (cc is)
 
--- the end added its units
-pub end_on : {codec : Codec} {w : SinkState} {h : List ℕ} (dec after : Decoding) (p : Waiting) (f : Option StreamFault) (read : ℕ) {mid : Cutting} {v u : SinkState} {start found shown : List FrameUnit}
-    → start ≡ [] → HasCut codec w h (record { decoding = dec; waiting = p; fault = f; read = read }) v
-    → (StandsFor dec h → Grew (units dec.codec h) (ended dec.codec h) start found)
-    → shown ≡ found → TakesUnits (units_of shown) (record { decoding = after; waiting = p; fault = f; read = read }) v mid u
-    → HasUnits w (ended codec h) mid u
-end_on {codec} {w} {h} dec after p f read {mid} {v} {u} {start} {found} {shown} none s grew same_found takes =
-    let C : Codec → Type 0 = λ c. Grew (units c h) (ended c h) start found in
-    units_on {c = record { decoding = after; waiting = p; fault = f; read = read }} (record { printed = s.found.printed; noted = s.found.noted }) takes (added none (subst C s.codec_same (grew s.stands)) ∙ ap (λ us. units codec h ++ units_of us) (sym same_found))
+module _ {D : Type 0} {state : D → Decoding} {stands : D → List ℕ → Type 0} where
+  -- a block was cut
+  pub cut_on : {codec : Codec} {w : SinkState} {h : List ℕ} {c d e : Cutting D} {v u : SinkState} {bytes : List ℕ} {found shown : List FrameUnit} (count : ℕ)
+      → HasCut state stands codec w h c v → d ≡ record c { decoder = d.decoder } → (state d.decoder).codec ≡ (state c.decoder).codec
+      → TakesIn (stands c.decoder) (stands d.decoder) (state c.decoder).codec bytes [] found
+      → shown ≡ found → TakesUnits (units_of shown) d v e u → count ≡ length bytes
+      → HasCut state stands codec w (h ++ bytes) (record e { read = e.read + count }) u
+  cut_on {codec} {w} {h} {c} {d} {e} {v} {u} {bytes} {found} {shown} count s same kept took same_found takes counted =
+      let C : Codec → Type 0 = λ x. Grew (units x h) (units x (h ++ bytes)) [] found in
+      let M : D → Type 0 = λ x. stands x (h ++ bytes) in
+      let P : Cutting D → Type 0 = λ x. PrintsTo (unit_lines (units codec h)) (unprinted w) (outlet x.waiting v) in
+      let decoded : e.decoder ≡ d.decoder = ap (λ (x : Cutting D). x.decoder) takes.state in
+      let before : HasUnits w (units codec h) d v = record { printed = subst P (sym same) s.found.printed; noted = ap (λ (x : Cutting D). x.fault) same ∙ s.found.noted } in
+      let has : HasUnits w (units codec (h ++ bytes)) e u = units_on before takes (added refl (subst C s.codec_same (took.grew h s.fed)) ∙ ap (λ us. units codec h ++ units_of us) (sym same_found)) in
+      record {
+        codec_same = ap (λ x. (state x).codec) decoded ∙ kept ∙ s.codec_same;
+        fed = subst M (sym decoded) (took.stands h s.fed);
+        found = record { printed = has.printed; noted = has.noted };
+        read = ap (λ n. n + count) (ap (λ (x : Cutting D). x.read) takes.state ∙ ap (λ (x : Cutting D). x.read) same ∙ s.read) ∙ ap (λ n. length h + n) counted ∙ sym (length-append h bytes);
+      }
+
+  -- the end added its units
+  pub end_on : {codec : Codec} {w : SinkState} {h : List ℕ} (dec after : D) (p : Waiting) (f : Option StreamFault) (read : ℕ) {mid : Cutting D} {v u : SinkState} {start found shown : List FrameUnit}
+      → start ≡ [] → HasCut state stands codec w h (record { decoder = dec; waiting = p; fault = f; read = read }) v
+      → TakesEnd (stands dec) (state dec).codec start found
+      → shown ≡ found → TakesUnits (units_of shown) (record { decoder = after; waiting = p; fault = f; read = read }) v mid u
+      → HasUnits w (ended codec h) mid u
+  end_on {codec} {w} {h} dec after p f read {mid} {v} {u} {start} {found} {shown} none s grew same_found takes =
+      let C : Codec → Type 0 = λ c. Grew (units c h) (ended c h) start found in
+      units_on {c = record { decoder = after; waiting = p; fault = f; read = read }} (record { printed = s.found.printed; noted = s.found.noted }) takes (added none (subst C s.codec_same (grew h s.fed)) ∙ ap (λ us. units codec h ++ units_of us) (sym same_found))
 
 -- all was printed, and what waited is written out
 pub all_reported : {w v : SinkState} {p : Waiting} {text : List ℕ} → PrintsTo text (unprinted w) (outlet p v) → (p.failed ≡ false → p.text ≡ []) → Reports p.failed text w v
@@ -129,17 +133,18 @@ text_from codec h g false e = (
 pub same_part : {w v : SinkState} {xs ys : List ℕ} → xs ≡ ys → ReportsPart xs w v → ReportsPart ys w v
 same_part {w} {v} {xs} {ys} e r = let P : List ℕ → Type 0 = λ t. ReportsPart t w v in subst P e r
 
--- memory was refused before the lines of the end
-pub closed_early : {codec : Codec} {w : SinkState} {h : List ℕ} {c : Cutting} {v : SinkState} (stop : Stop) → HasCut codec w h c v → Closes (framing codec) stop h w v Memory
-closed_early {codec} {w} {h} {c} {v} stop s =
-    let more = text_from codec h h (is_end stop) ([], sym (append-nil (units codec h))) in
-    inr (record { part = same_part more.1 (part_reported more.0 s.found.printed); memory = refl })
+module _ {D : Type 0} {state : D → Decoding} {stands : D → List ℕ → Type 0} where
+  -- memory was refused before the lines of the end
+  pub closed_early : {codec : Codec} {w : SinkState} {h : List ℕ} {c : Cutting D} {v : SinkState} (stop : Stop) → HasCut state stands codec w h c v → Closes (framing codec) stop h w v Memory
+  closed_early {codec} {w} {h} {c} {v} stop s =
+      let more = text_from codec h h (is_end stop) ([], sym (append-nil (units codec h))) in
+      inr (record { part = same_part more.1 (part_reported more.0 s.found.printed); memory = refl })
 
 -- the report was closed
-pub closed_on : (codec : Codec) {w : SinkState} (h : List ℕ) {c : Cutting} {v u : SinkState} {p : Waiting} (stop : Stop) {status : Status}
+pub closed_on : (codec : Codec) {w : SinkState} (h : List ℕ) {D : Type 0} {c : Cutting D} {v u : SinkState} {p : Waiting} (stop : Stop) {status : Status}
     → HasUnits w (units_read codec h (is_end stop)) c v → PrintsTo (end_line (length h)) (outlet c.waiting v) (outlet p u) → (p.failed ≡ false → p.text ≡ [])
     → status ≡ status_at stop c.fault p.failed → Closes (framing codec) stop h w u status
-closed_on codec {w} h {c} {v} {u} {p} stop {status} has last empty named =
+closed_on codec {w} h {D} {c} {v} {u} {p} stop {status} has last empty named =
     inl (record {
       failed = p.failed;
       reports = all_reported (prints_both has.printed last) empty;

@@ -9,6 +9,7 @@ use Rattle.frame_head.specs.declared.codecs.Codec.{Codec}
 use Rattle.frame_head.specs.Checks.{fault_of}
 use Rattle.frame_head.specs.Laws.{StableUnits}
 use Rattle.frame_head.specs.Units.{units}
+use Rattle.frame_rule.specs.Decoding.{Decoding}
 use Rattle.relay_ports.specs.States.{SourceState, SinkState, IsFreshSource}
 use Rattle.relay_ports.specs.Told.{counted, grown}
 use Rattle.buffered_io.specs.declared.reading.Filled.{Filled}
@@ -20,7 +21,7 @@ use Rattle.buffered_io.proofs.Blocks.{read_both, read_failing, same_read, same_f
 use Rattle.buffered_io.proofs.Prints.{wrote_nothing}
 use Rattle.relay_app.specs.declared.status.Status.{Status}
 use Rattle.relay_app.specs.declared.status.Status.TheVariants as status
-use Rattle.relay_app.specs.Cutting.{Cutting, HasCut, ReadsTo, Interrupted, Closes, is_end, status_at}
+use Rattle.relay_app.specs.Cutting.{Cutting, Cuts, CutsTo, HasCut, ReadsTo, Interrupted, Closes, is_end, status_at}
 use Rattle.relay_app.specs.Framing.{framing}
 use Rattle.relay_app.specs.Runs.{Command, Completed, Starved, Reports, ReportsPart, ReadsInput, is_whole, none_left, status_of, stream_or, text_of}
 use Rattle.relay_app.specs.Text.{unit_lines}
@@ -30,45 +31,83 @@ pub on_err : {T E : Type 0} (r : Result T E) {P : Type 0} → P → OnErr r P
 on_err (Ok x) {P} p = tt
 on_err (Err e) {P} p = p
 
--- the codec under another name
-pub recode : {codec : Codec} {w : SinkState} {h : List ℕ} {c : Cutting} {v : SinkState} → HasCut codec w h c v → HasCut c.decoding.codec w h c v
-recode {codec} {w} {h} {c} {v} s = let P : Codec → Type 0 = λ x. HasCut x w h c v in subst P (sym s.codec_same) s
-
 -- all that was asked for was read, and then one byte more was asked for
 pub probed : {limit : ℕ} {h : List ℕ} {s : SourceState} (r t : SourceState) (stop : Stop) → Read h s r → length h ≡ limit → Probes stop r t → ReadsTo limit stop h s t
 probed {limit} {h} {s} r t End first full p = (same_read (append-nil h) (read_both first p.0), p.1, omega (arith, full))
 probed {limit} {h} {s} r t Failure first full p = (same_failing (append-nil h) (read_failing first p), omega (arith, full))
 probed {limit} {h} {s} r t Limit first full p = (p.0, read_both first p.1, full)
 
--- what was read when memory was refused for a block of which these bytes came
-pub interrupted : {codec : Codec} {limit : ℕ} {w : SinkState} {h : List ℕ} {c : Cutting} {v u : SinkState} {s : SourceState} (r t : SourceState) (size : ℕ) (filled : Filled) (bytes : List ℕ)
-    → HasCut codec w h c v → u ≡ v → Read h s r → ReadsBlock filled size bytes r t → c.read + size ≤ limit → Interrupted codec limit s t w u
-interrupted {codec} {limit} {w} {h} {c} {v} {u} {s} r t size filled bytes cut same first block room =
-    let P : SinkState → Type 0 = λ x. ReportsPart (unit_lines (units codec h)) w x in
-    let come = came filled block in
-    record {
-      h = h;
-      more = bytes;
-      read = come.0;
-      within = omega (arith, length-append h bytes, cut.read, come.1, room);
-      part = subst P (sym same) (same_part (append-nil (unit_lines (units codec h))) (part_reported [] cut.found.printed));
-    }
-  where
-    came : (f : Filled) → ReadsBlock f size bytes r t → (Read (h ++ bytes) s t ⊎ ReadFailing (h ++ bytes) s t) × (length bytes ≤ size)
-    came Full b = (inl (read_both first b.0), omega (arith, b.1))
-    came Ended b = (inl (read_both first b.0), omega (arith, b.2))
-    came Broken b = (inr (read_failing first b.0), omega (arith, b.1))
+module _ {D : Type 0} {state : D → Decoding} {stands : D → List ℕ → Type 0} where
+  -- the codec under another name
+  pub recode : {codec : Codec} {w : SinkState} {h : List ℕ} {c : Cutting D} {v : SinkState} → HasCut state stands codec w h c v → HasCut state stands (state c.decoder).codec w h c v
+  recode {codec} {w} {h} {c} {v} s = let P : Codec → Type 0 = λ x. HasCut state stands x w h c v in subst P (sym s.codec_same) s
 
--- memory was refused before a block
-pub interrupted_before : {codec : Codec} {limit : ℕ} {w : SinkState} {h : List ℕ} {c : Cutting} {v : SinkState} {s r : SourceState}
-    → HasCut codec w h c v → Read h s r → c.read ≤ limit → Interrupted codec limit s r w v
-interrupted_before {codec} {limit} {w} {h} {c} {v} {s} {r} cut first within = record {
-  h = h;
-  more = [];
-  read = inl (same_read (sym (append-nil h)) first);
-  within = omega (arith, length-append h [], cut.read, within);
-  part = same_part (append-nil (unit_lines (units codec h))) (part_reported [] cut.found.printed);
-}
+  -- a block came, and was cut
+  cut_next : {codec : Codec} {limit : ℕ} {w v u : SinkState} {h : List ℕ} {c d e : Cutting D} (size : ℕ) (bytes : List ℕ) → d ≡ c → HasCut state stands codec w h c v
+      → Cuts state stands bytes d v e u → c.read + size ≤ limit → length bytes ≤ size → HasCut state stands codec w (h ++ bytes) e u × (length (h ++ bytes) ≤ limit)
+  cut_next {codec} {limit} {w} {v} {h = h} {c} size bytes same before cut room within =
+      let P : Cutting D → Type 0 = λ x. HasCut state stands codec w h x v in
+      (cut codec w h (subst P (sym same) before), omega (arith, length-append h bytes, before.read, room, within))
+
+  -- a whole block came, and was cut
+  pub cut_full : {codec : Codec} {limit : ℕ} {w v u : SinkState} {h : List ℕ} {c d : Cutting D} (e : Cutting D) (size : ℕ) (bytes : List ℕ) {s r t : SourceState} {filled : Filled} {K : Type 0}
+      → d ≡ c → HasCut state stands codec w h c v → Read h s r → Cuts state stands bytes d v e u → c.read + size ≤ limit → filled ≡ Full → ReadsBlock filled size bytes r t → K
+      → (g : List ℕ) × HasCut state stands codec w g e u × Read g s t × (e.read ≤ limit) × K
+  cut_full {h = h} e size bytes {s} {r} {t} same before first cut room is block kept =
+      let B : Filled → Type 0 = λ f. ReadsBlock f size bytes r t in
+      let full = subst B is block in
+      let next = cut_next size bytes same before cut room (omega (arith, full.1)) in
+      (h ++ bytes, next.0, read_both first full.0, omega (arith, next.0.read, next.1), kept)
+
+  -- the last block came, and was cut
+  pub cut_last : {codec : Codec} {limit : ℕ} {w v u : SinkState} {h : List ℕ} {c d e : Cutting D} (size : ℕ) (bytes : List ℕ) {s r t : SourceState} {filled : Filled}
+      → d ≡ c → HasCut state stands codec w h c v → Read h s r → Cuts state stands bytes d v e u → c.read + size ≤ limit → filled ≡ Ended → ReadsBlock filled size bytes r t
+      → CutsTo state stands codec limit End s t w e u
+  cut_last {h = h} size bytes {s} {r} {t} same before first cut room is block =
+      let B : Filled → Type 0 = λ f. ReadsBlock f size bytes r t in
+      let last = subst B is block in
+      let next = cut_next size bytes same before cut room (omega (arith, last.2)) in
+      (h ++ bytes, next.0, (read_both first last.0, last.1, next.1))
+
+  -- a block came as far as a failure, and was cut
+  pub cut_broken : {codec : Codec} {limit : ℕ} {w v u : SinkState} {h : List ℕ} {c d e : Cutting D} (size : ℕ) (bytes : List ℕ) {s r t : SourceState} {filled : Filled}
+      → d ≡ c → HasCut state stands codec w h c v → Read h s r → Cuts state stands bytes d v e u → c.read + size ≤ limit → filled ≡ Broken → ReadsBlock filled size bytes r t
+      → CutsTo state stands codec limit Failure s t w e u
+  cut_broken {h = h} size bytes {s} {r} {t} same before first cut room is block =
+      let B : Filled → Type 0 = λ f. ReadsBlock f size bytes r t in
+      let broken = subst B is block in
+      let next = cut_next size bytes same before cut room (omega (arith, broken.1)) in
+      (h ++ bytes, next.0, (read_failing first broken.0, next.1))
+
+  -- what was read when memory was refused for a block of which these bytes came
+  pub interrupted : {codec : Codec} {limit : ℕ} {w : SinkState} {h : List ℕ} {c : Cutting D} {v u : SinkState} {s : SourceState} (r t : SourceState) (size : ℕ) (filled : Filled) (bytes : List ℕ)
+      → HasCut state stands codec w h c v → u ≡ v → Read h s r → ReadsBlock filled size bytes r t → c.read + size ≤ limit → Interrupted codec limit s t w u
+  interrupted {codec} {limit} {w} {h} {c} {v} {u} {s} r t size filled bytes cut same first block room =
+      let P : SinkState → Type 0 = λ x. ReportsPart (unit_lines (units codec h)) w x in
+      let come = came filled block in
+      record {
+        h = h;
+        more = bytes;
+        read = come.0;
+        within = omega (arith, length-append h bytes, cut.read, come.1, room);
+        part = subst P (sym same) (same_part (append-nil (unit_lines (units codec h))) (part_reported [] cut.found.printed));
+      }
+    where
+      came : (f : Filled) → ReadsBlock f size bytes r t → (Read (h ++ bytes) s t ⊎ ReadFailing (h ++ bytes) s t) × (length bytes ≤ size)
+      came Full b = (inl (read_both first b.0), omega (arith, b.1))
+      came Ended b = (inl (read_both first b.0), omega (arith, b.2))
+      came Broken b = (inr (read_failing first b.0), omega (arith, b.1))
+
+  -- memory was refused before a block
+  pub interrupted_before : {codec : Codec} {limit : ℕ} {w : SinkState} {h : List ℕ} {c : Cutting D} {v : SinkState} {s r : SourceState}
+      → HasCut state stands codec w h c v → Read h s r → c.read ≤ limit → Interrupted codec limit s r w v
+  interrupted_before {codec} {limit} {w} {h} {c} {v} {s} {r} cut first within = record {
+    h = h;
+    more = [];
+    read = inl (same_read (sym (append-nil h)) first);
+    within = omega (arith, length-append h [], cut.read, within);
+    part = same_part (append-nil (unit_lines (units codec h))) (part_reported [] cut.found.printed);
+  }
 
 -- what an input gave that had given nothing before
 told_of : (s t : SourceState) (bytes : List ℕ) → IsFreshSource s → t.given ≡ grown s.given bytes → IfSome t.given (λ xs. xs ≡ bytes)

@@ -3,3 +3,4 @@ pub mod Noted
 pub mod Cuts
 pub mod Inputs
 pub mod Hosts
+pub mod Nodes

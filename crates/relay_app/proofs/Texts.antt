@@ -6,18 +6,19 @@ use Rattle.std.proofs.lemmas.List.{take_more, map-append}
 use Rattle.std.proofs.lemmas.Option.{get_or_from_slice_get}
 use Rattle.hex.specs.Hex.{encode_lower}
 use Rattle.frame_head.specs.Units.{FramingUnit}
-use Rattle.frame_length.specs.declared.unit.FrameUnit.{FrameUnit}
-use Rattle.frame_length.specs.Units.{unit_of, units_of}
-use Rattle.plain_chain.specs.Segments.{bytes_of}
-use Rattle.plain_chain.proofs.Joined.{bytes_of-append}
+use Rattle.frame_rule.specs.declared.unit.FrameUnit.{FrameUnit}
+use Rattle.frame_rule.specs.Units.{unit_of, units_of}
+use Rattle.buffer_model.specs.Segment.{Segment, bytes_of}
+use Rattle.buffer_model.proofs.Windows.{bytes_of-append}
 use Rattle.buffered_io.proofs.Digits.{encode-append}
 use Rattle.relay_app.specs.Text.{unit_line, unit_lines}
 
-pub segments_further : (c : List (List ℕ)) (i : ℕ) (s : List ℕ) → i < length c → slice_get c i ≡ Some s → encode_lower (bytes_of (take (i + 1) c)) ≡ encode_lower (bytes_of (take i c)) ++ encode_lower s
-segments_further c i s below is =
+pub nodes_further : {O : Type 0} (c : List (Segment O)) (i : ℕ) (s : Segment O) → i < length c → slice_get c i ≡ Some s
+    → encode_lower (bytes_of (take (i + 1) c)) ≡ encode_lower (bytes_of (take i c)) ++ encode_lower s.window
+nodes_further c i s below is =
     ap (λ w. encode_lower (bytes_of w)) (take_more c i s below ∙ ap (λ w. take i c ++ w ∷ []) (get_or_from_slice_get c i s s is))
-    ∙ ap encode_lower (bytes_of-append (take i c) (s ∷ []) ∙ ap (λ w. bytes_of (take i c) ++ w) (append-nil s))
-    ∙ encode-append (bytes_of (take i c)) s
+    ∙ ap encode_lower (bytes_of-append (take i c) (s ∷ []) ∙ ap (λ w. bytes_of (take i c) ++ w) (append-nil s.window))
+    ∙ encode-append (bytes_of (take i c)) s.window
 
 pub units_further : (us : List FrameUnit) (i : ℕ) (u : FrameUnit) → i < length us → u ≡ get_or us i u → units_of (take (i + 1) us) ≡ units_of (take i us) ++ unit_of u ∷ []
 units_further us i u below is =

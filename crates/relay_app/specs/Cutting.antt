@@ -2,7 +2,7 @@
 use Rattle.std.specs.Prelude.{◌≡◌, ◌⊎◌, ℕ, ◌≤◌, Bool, true, false, List, [], ◌∷◌, ◌++◌, Option, length, if◌then◌else◌}
 use Rattle.frame_head.specs.declared.codecs.Codec.{Codec}
 use Rattle.frame_head.specs.Units.{FramingUnit, units}
-use Rattle.frame_length.specs.Decoding.{Decoding, StandsFor}
+use Rattle.frame_rule.specs.Decoding.{Decoding}
 use Rattle.relay_ports.specs.States.{SourceState, SinkState}
 use Rattle.buffered_io.specs.declared.reading.Stop.{Stop}
 use Rattle.buffered_io.specs.declared.reading.Stop.TheVariants.{End, Failure, Limit}
@@ -22,8 +22,8 @@ is_end Failure = false
 is_end Limit = false
 
 -- a cutter: its decoder, the text that waits, the first fault, and how many bytes were cut
-pub record Cutting : Type 0 where
-  pub decoding : Decoding
+pub record Cutting (D : Type 0) : Type 0 where
+  pub decoder : D
   pub waiting : Waiting
   pub fault : Option StreamFault
   pub read : ℕ
@@ -32,43 +32,22 @@ pub record Cutting : Type 0 where
 abbrev pub unprinted : SinkState → Outlet
 unprinted w = record { text = []; failed = false; sink = w }
 
--- since the report's state was `w`, the lines of these units were printed and their first fault was noted
-pub record HasUnits (w : SinkState) (us : List FramingUnit) (c : Cutting) (v : SinkState) : Type 0 where
-  pub printed : PrintsTo (unit_lines us) (unprinted w) (outlet c.waiting v)
-  pub noted : c.fault ≡ first_fault us
+module _ {D : Type 0} where
+  -- since the report's state was `w`, the lines of these units were printed and their first fault was noted
+  pub record HasUnits (w : SinkState) (us : List FramingUnit) (c : Cutting D) (v : SinkState) : Type 0 where
+    pub printed : PrintsTo (unit_lines us) (unprinted w) (outlet c.waiting v)
+    pub noted : c.fault ≡ first_fault us
 
--- since the report's state was `w`, the bytes `h` were cut
-pub record HasCut (codec : Codec) (w : SinkState) (h : List ℕ) (c : Cutting) (v : SinkState) : Type 0 where
-  pub codec_same : c.decoding.codec ≡ codec
-  pub stands : StandsFor c.decoding h
-  pub found : HasUnits w (units codec h) c v
-  pub read : c.read ≡ length h
-
--- these units are printed and noted next
-pub record TakesUnits (us : List FramingUnit) (c : Cutting) (v : SinkState) (d : Cutting) (u : SinkState) : Type 0 where
-  pub state : d ≡ record c { waiting = d.waiting; fault = fault_after c.fault us }
-  pub prints : PrintsTo (unit_lines us) (outlet c.waiting v) (outlet d.waiting u)
-
--- the bytes of a block were cut next
-abbrev pub Cuts : List ℕ → Cutting → SinkState → Cutting → SinkState → Type 0
-Cuts bytes c v d u =
-    (codec : Codec) (w : SinkState) (h : List ℕ) → HasCut codec w h c v → HasCut codec w (h ++ bytes) d u
-
--- what the end adds was printed and noted, where the reading stopped there
-abbrev pub CutsEnd : Stop → Cutting → SinkState → Cutting → SinkState → Type 0
-CutsEnd stop c v d u =
-    (codec : Codec) (w : SinkState) (h : List ℕ) → HasCut codec w h c v
-    → HasUnits w (units_read codec h (is_end stop)) d u
+  -- these units are printed and noted next
+  pub record TakesUnits (us : List FramingUnit) (c : Cutting D) (v : SinkState) (d : Cutting D) (u : SinkState) : Type 0 where
+    pub state : d ≡ record c { waiting = d.waiting; fault = fault_after c.fault us }
+    pub prints : PrintsTo (unit_lines us) (outlet c.waiting v) (outlet d.waiting u)
 
 -- a reading of at most `limit` bytes stopped behind the bytes `h`
 abbrev pub ReadsTo : ℕ → Stop → List ℕ → SourceState → SourceState → Type 0
 ReadsTo limit End h s t = Read h s t × IsAtEnd t × (length h ≤ limit)
 ReadsTo limit Failure h s t = ReadFailing h s t × (length h ≤ limit)
 ReadsTo limit Limit h s t = (x : ℕ) × Read (h ++ x ∷ []) s t × (length h ≡ limit)
-
--- all that was read, until it stopped so, was cut
-abbrev pub CutsTo : Codec → ℕ → Stop → SourceState → SourceState → SinkState → Cutting → SinkState → Type 0
-CutsTo codec limit stop s t w c v = (h : List ℕ) × HasCut codec w h c v × ReadsTo limit stop h s t
 
 -- memory was refused when the bytes `h` were cut, and some more were read
 pub record Interrupted (codec : Codec) (limit : ℕ) (s t : SourceState) (w v : SinkState) : Type 0 where
@@ -89,7 +68,31 @@ abbrev pub Closes : Command → Stop → List ℕ → SinkState → SinkState �
 Closes c stop h w v status =
     Ends (c.text h (is_end stop)) (status_at stop (c.fault h (is_end stop))) w v status
 
--- the report of all that was cut was closed
-abbrev pub ClosesCut : Stop → Cutting → SinkState → SinkState → Status → Type 0
-ClosesCut stop c v u status =
-    (codec : Codec) (w : SinkState) (h : List ℕ) → HasCut codec w h c v → Closes (framing codec) stop h w u status
+-- of cutters whose decoder is seen as `state` says, and was fed the bytes for which it stands
+module _ {D : Type 0} (state : D → Decoding) (stands : D → List ℕ → Type 0) where
+  -- since the report's state was `w`, the bytes `h` were cut
+  pub record HasCut (codec : Codec) (w : SinkState) (h : List ℕ) (c : Cutting D) (v : SinkState) : Type 0 where
+    pub codec_same : (state c.decoder).codec ≡ codec
+    pub fed : stands c.decoder h
+    pub found : HasUnits w (units codec h) c v
+    pub read : c.read ≡ length h
+
+  -- the bytes of a block were cut next
+  abbrev pub Cuts : List ℕ → Cutting D → SinkState → Cutting D → SinkState → Type 0
+  Cuts bytes c v d u =
+      (codec : Codec) (w : SinkState) (h : List ℕ) → HasCut codec w h c v → HasCut codec w (h ++ bytes) d u
+
+  -- what the end adds was printed and noted, where the reading stopped there
+  abbrev pub CutsEnd : Stop → Cutting D → SinkState → Cutting D → SinkState → Type 0
+  CutsEnd stop c v d u =
+      (codec : Codec) (w : SinkState) (h : List ℕ) → HasCut codec w h c v
+      → HasUnits w (units_read codec h (is_end stop)) d u
+
+  -- all that was read, until it stopped so, was cut
+  abbrev pub CutsTo : Codec → ℕ → Stop → SourceState → SourceState → SinkState → Cutting D → SinkState → Type 0
+  CutsTo codec limit stop s t w c v = (h : List ℕ) × HasCut codec w h c v × ReadsTo limit stop h s t
+
+  -- the report of all that was cut was closed
+  abbrev pub ClosesCut : Stop → Cutting D → SinkState → SinkState → Status → Type 0
+  ClosesCut stop c v u status =
+      (codec : Codec) (w : SinkState) (h : List ℕ) → HasCut codec w h c v → Closes (framing codec) stop h w u status

@@ -1,22 +1,10 @@
 -- The command `frames`: a line for each unit of what was read, and a last line.
-use Rattle.std.specs.Prelude.{◌≡◌, ℕ, Bool, true, false, List, ◌++◌, None, length, if◌then◌else◌}
+use Rattle.std.specs.Prelude.{ℕ, Bool, List, ◌++◌, length, if◌then◌else◌}
 use Rattle.frame_head.specs.declared.codecs.Codec.{Codec}
-use Rattle.frame_head.specs.declared.codecs.Codec.TheVariants.{Length}
-use Rattle.frame_head.specs.Checks.{fault_of}
-use Rattle.frame_head.specs.Laws.{IsLength}
 use Rattle.frame_head.specs.Units.{FramingUnit, units, ended}
 use Rattle.relay_app.specs.Noting.{first_fault}
 use Rattle.relay_app.specs.Runs.{Command}
 use Rattle.relay_app.specs.Text.{unit_lines, end_line}
-
--- whether there is a decoder for a codec
-abbrev pub has_decoder : Codec → Bool
-has_decoder (Length field offset adjust strip little max) = true
-has_decoder _ = false
-
--- a codec that `check` passes and that there is a decoder for
-abbrev pub IsSupported : Codec → Type 0
-IsSupported codec = (fault_of codec ≡ None) × IsLength codec
 
 -- the units of what was read; those of the end are among them where that is the whole input
 abbrev pub units_read : Codec → List ℕ → Bool → List FramingUnit

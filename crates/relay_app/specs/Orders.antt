@@ -1,5 +1,5 @@
 -- What the words come to.
-use Rattle.std.specs.Prelude.{◌≡◌, ◌⊎◌, ℕ, Bool, false, Option, Some, None, Result, Ok, Err, if◌then◌else◌}
+use Rattle.std.specs.Prelude.{◌≡◌, ◌⊎◌, ℕ, Bool, true, false, Option, Some, None, Result, Ok, Err, if◌then◌else◌}
 use Rattle.relay_words.specs.declared.faults.UsageKind.{UsageKind}
 use Rattle.relay_words.specs.declared.faults.UsageKind.TheVariants.{NotBuilt}
 use Rattle.relay_words.specs.declared.faults.WordFault.{WordFault}
@@ -8,11 +8,10 @@ use Rattle.relay_words.specs.declared.order.Order.{Order}
 use Rattle.relay_words.specs.declared.order.Order.TheVariants.{Frames, Chain, Relay, Mill}
 use Rattle.relay_app.specs.declared.status.Status.{Status}
 use Rattle.relay_app.specs.declared.status.Status.TheVariants as status
-use Rattle.relay_app.specs.Framing.{has_decoder}
 
 -- whether a good command can run yet
 abbrev pub can_run : Order → Bool
-can_run (Frames codec block limit input) = has_decoder codec
+can_run (Frames codec block limit input) = true
 can_run (Chain input) = false
 can_run (Relay codec out stages block cap drop_slow limit input subs) = false
 can_run (Mill n) = false

@@ -1,51 +1,59 @@
-ghost use Rattle.std.specs.Prelude.{◌≡◌, ◌+◌, ◌<◌, ◌^◌, [], vec_len, IfOk, OnOk, OnErr};
-ghost use Rattle.frame_length.specs.Units.{units_of};
+ghost use Rattle.std.specs.Prelude.{◌≡◌, ◌+◌, ◌≤◌, ◌<◌, ◌^◌, [], ◌∷◌, ◌++◌, None, length, IfOk, OnOk, OnErr};
+ghost use Rattle.iobuf_chain.specs.Copies.{IsHeavy, WithData};
+ghost use Rattle.frame_rule.specs.Decoding.{TakesIn};
+ghost use Rattle.frame_rule.specs.Hauls.{SharesData};
+ghost use Rattle.frame_rule.specs.Units.{units_of};
 ghost use Rattle.relay_ports.specs.States.{SinkState};
+ghost use Rattle.buffered_io.specs.Reading.{ReadsBlock};
 ghost use Rattle.relay_app.specs.Cutting.{ClosesCut, Cuts, CutsEnd, HasCut, TakesUnits};
-ghost use Rattle.relay_app.specs.Framing.{IsSupported};
 
 use crate::status::Status;
 use crate::stream_fault::{StreamFault, note};
 use crate::unit_lines::{print_end, print_unit};
-use buffered_io::{Printer, Stop};
-use frame_length::{Chain, Codec, FrameUnit, LengthDecoder};
-use relay_ports::Sink;
+use buffered_io::{Filled, Printer, Stop};
+use frame_rule::{Decoder, FrameUnit, Haul};
+use input_pieces::{IoBuf, Mint, read_piece};
+use iobuf_chain::Chain;
+use relay_ports::{Sink, Source};
 use std::alloc::{AllocError, Global};
 use std::marker::Model;
 use std::mem;
 
 /// A stream that is cut into frames, of which each is printed. It notes the first fault, and how many bytes were cut.
-#[derive(Debug, Drop)]
-pub(crate) struct Cutter {
-    decoder: LengthDecoder,
+#[derive(Drop)]
+pub(crate) struct Cutter<D: Decoder> {
+    decoder: D,
     printer: Printer,
+    // What the last block made whole and handed back. It is let go once the next block is there: with the small pieces
+    // of memory still taken, the allocator has none to put together when it is asked for a block.
+    haul: Haul,
+    mint: Mint,
     fault: Option<StreamFault>,
     read: u64,
-    // What the last block made whole. It is let go once the next block is there: with the small pieces of memory still
-    // taken, the allocator has none to put together when it is asked for a block.
-    found: Vec<FrameUnit>,
 }
 
-impl Model for Cutter {
+impl<D: Decoder> Model for Cutter<D> {
     ghost use Rattle.relay_app.specs.Cutting.{Cutting};
 
-    ghost Value = { Cutting };
+    ghost Value = { Cutting D };
 
-    ghost view = { λ c. record { decoding = c.decoder; waiting = c.printer; fault = c.fault; read = c.read } };
+    ghost view = { λ c. record { decoder = c.decoder; waiting = c.printer; fault = c.fault; read = c.read } };
 }
 
-impl Cutter {
-    /// A cutter that was given nothing.
-    pub(crate) fn new(alloc: Global, codec: Codec) -> Result<Cutter, AllocError>
-        requires { IsSupported codec }
-        ensures { IfOk result (λ c. (w : SinkState) → HasCut codec w [] c w) }
+impl<D: Decoder> Cutter<D> {
+    /// A cutter that was given nothing, by the codec of a decoder that was fed nothing.
+    pub(crate) fn new(alloc: Global, decoder: D) -> Result<Cutter<D>, AllocError>
+        requires { D.stands decoder [] }
+        ensures cut { IfOk result (λ c. (w : SinkState) → HasCut D.state D.stands (D.state decoder).codec w [] c w) }
+        ensures decoder { IfOk result (λ c. c.decoder ≡ decoder) }
     {
         Ok(Cutter {
-            decoder: LengthDecoder::new(alloc, codec),
+            decoder,
             printer: Printer::new(alloc)?,
+            haul: Haul::new(alloc),
+            mint: Mint::new(),
             fault: None,
             read: 0,
-            found: Vec::new(alloc),
         })
     }
 
@@ -56,36 +64,72 @@ impl Cutter {
         self.read
     }
 
-    /// Cuts the next block, and prints what it completes.
+    /// Reads the next block, of at most `size` bytes, straight into a new node.
+    pub(crate) fn read_block<S: Source>(
+        &mut self,
+        alloc: Global,
+        input: &mut S,
+        size: usize,
+    ) -> Result<(IoBuf<'static>, Filled), AllocError>
+        requires { size ≤ 1048576 }
+        ensures reads { IfOk result (λ r. ReadsBlock r.1 size r.0.window (S.state input.old) (S.state input.new)) }
+        ensures unread { OnErr result (input.new ≡ input.old) }
+        ensures heavy { IfOk result (λ r. IsHeavy r.0) }
+        ensures same { self.new ≡ self.old }
+    {
+        read_piece(alloc, input, size, &mut self.mint)
+    }
+
+    /// Cuts the next block, and prints what it completes. No byte of a frame is copied but into the report.
     pub(crate) fn cut<W: Sink>(
         &mut self,
         alloc: Global,
         report: &mut W,
-        block: Vec<u8>,
+        block: IoBuf<'static>,
     ) -> Result<(), AllocError>
-        requires fed { self.old.decoding.fed + vec_len block < 2 ^ 62 }
-        requires read { self.old.read + vec_len block < 2 ^ 62 }
-        ensures cut { OnOk result (Cuts block.items self.old (W.state report.old) self.new (W.state report.new)) }
+        requires fed { (D.state self.old.decoder).fed + length block.window < 2 ^ 62 }
+        requires read { self.old.read + length block.window < 2 ^ 62 }
+        requires heavy { IsHeavy block }
+        requires kept { WithData IsHeavy (D.state self.old.decoder).kept }
+        ensures cut { OnOk result (Cuts D.state D.stands block.entry.window
+            self.old (W.state report.old) self.new (W.state report.new)) }
+        ensures kept { OnOk result (WithData IsHeavy (D.state self.new.decoder).kept) }
         ensures unprinted { OnErr result (report.new ≡ report.old) }
     {
-        let count = block.len() as u64;
-        let Ok(piece) = Chain::plain(alloc, block) else {
+        let count = block.length() as u64;
+        let haul = self.feed(alloc, block)?;
+        self.take_units(report, &haul.units);
+        self.read += count;
+        self.haul = haul;
+        Ok(())
+    }
+
+    // Feeds a block to the decoder, and answers what came of it. The frames are made of the nodes that were read.
+    fn feed(&mut self, alloc: Global, block: IoBuf<'static>) -> Result<Haul, AllocError>
+        requires fed { (D.state self.old.decoder).fed + length block.window < 2 ^ 62 }
+        requires heavy { IsHeavy block }
+        requires kept { WithData IsHeavy (D.state self.old.decoder).kept }
+        ensures units { IfOk result (λ haul. TakesIn (D.stands self.old.decoder) (D.stands self.new.decoder)
+            (D.state self.old.decoder).codec block.entry.window [] haul.units.items) }
+        ensures copies { IfOk result (λ haul. SharesData ((D.state self.old.decoder).kept ++ block.entry ∷ [])
+            (D.state self.new.decoder).kept [] haul.units.items) }
+        ensures codec { OnOk result ((D.state self.new.decoder).codec ≡ (D.state self.old.decoder).codec) }
+        ensures same { self.new ≡ record self.old { decoder = self.new.decoder } }
+    {
+        let Ok(piece) = Chain::of(alloc, block) else {
             return Err(AllocError);
         };
-        let mut found = mem::replace(&mut self.found, Vec::new(alloc));
-        found.clear();
-        if self.decoder.feed(alloc, piece, &mut found).is_err() {
+        let mut haul = mem::replace(&mut self.haul, Haul::new(alloc));
+        empty(&mut haul);
+        let Ok(()) = self.decoder.feed(alloc, piece, &mut haul, &mut self.mint) else {
             return Err(AllocError);
-        }
-        self.take_units(report, &found);
-        self.read += count;
-        self.found = found;
-        Ok(())
+        };
+        Ok(haul)
     }
 
     /// Prints what the end adds where it was reached, and the last line, and answers the status.
     pub(crate) fn close<W: Sink>(&mut self, alloc: Global, report: &mut W, stop: Stop) -> Status
-        ensures { ClosesCut stop self.old (W.state report.old) (W.state report.new) result }
+        ensures { ClosesCut D.state D.stands stop self.old (W.state report.old) (W.state report.new) result }
     {
         if self.end(alloc, report, stop).is_err() {
             return Status::Memory;
@@ -98,18 +142,19 @@ impl Cutter {
     // Prints what the end of the stream adds, where it was reached.
     fn end<W: Sink>(&mut self, alloc: Global, report: &mut W, stop: Stop) -> Result<(), AllocError>
         ensures read { self.new.read ≡ self.old.read }
-        ensures ended { OnOk result (CutsEnd stop self.old (W.state report.old) self.new (W.state report.new)) }
+        ensures ended { OnOk result (CutsEnd D.state D.stands stop
+            self.old (W.state report.old) self.new (W.state report.new)) }
         ensures unprinted { OnErr result (report.new ≡ report.old) }
     {
         match stop {
             Stop::Failure | Stop::Limit => return Ok(()),
             Stop::End => {}
         }
-        let mut found: Vec<FrameUnit> = Vec::new(alloc);
-        if self.decoder.end(alloc, &mut found).is_err() {
+        let mut haul = Haul::new(alloc);
+        if self.decoder.end(alloc, &mut haul, &mut self.mint).is_err() {
             return Err(AllocError);
         }
-        self.take_units(report, &found);
+        self.take_units(report, &haul.units);
         Ok(())
     }
 
@@ -122,4 +167,14 @@ impl Cutter {
             note(&mut self.fault, unit);
         }
     }
+}
+
+// Lets go of all that is in a haul.
+fn empty(haul: &mut Haul)
+    ensures units { haul.new.units.items ≡ [] }
+    ensures refused { haul.new.refused ≡ None }
+{
+    haul.units.clear();
+    haul.back.clear();
+    haul.refused = None;
 }

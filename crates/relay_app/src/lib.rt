@@ -8,7 +8,7 @@ mod status;
 mod stream_fault;
 mod unit_lines;
 
-pub use frame_length::{Codec, FaultKind};
+pub use frame_rule::{Codec, FaultKind};
 pub use framing::frames;
 pub use relay_words::UsageKind;
 pub use run::run_plain;

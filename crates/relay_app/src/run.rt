@@ -1,15 +1,15 @@
-ghost use Rattle.std.specs.Prelude.{◌≡◌, ℕ, ◌≤◌, List, Some, Ok, true, map};
+ghost use Rattle.std.specs.Prelude.{◌≡◌, ℕ, ◌≤◌, List, Some, Ok, map};
 ghost use Rattle.std.specs.String.{string_bytes};
 ghost use Rattle.frame_head.specs.declared.codecs.Codec.{Codec};
 ghost use Rattle.relay_words.specs.Orders.{order};
 ghost use Rattle.relay_words.specs.declared.faults.UsageKind.{UsageKind};
 ghost use Rattle.relay_words.specs.declared.faults.WordFault.{WordFault};
 ghost use Rattle.relay_words.specs.declared.order.Order.{Order};
-ghost use Rattle.relay_app.specs.Framing.{framing, has_decoder};
+ghost use Rattle.relay_app.specs.Framing.{framing};
 ghost use Rattle.relay_app.specs.Orders.{Refuses, refusal_of};
 ghost use Rattle.relay_app.specs.Runs.{RunsInput};
 
-use crate::framing::{frames, has_decoder};
+use crate::framing::frames;
 use crate::status::Status;
 use relay_ports::Host;
 use relay_words::{Order, UsageKind, WordFault, read_words};
@@ -34,7 +34,6 @@ pub fn run_plain<H: Host>(alloc: Global, host: &mut H, words: &[String]) -> Stat
         → Refuses word kind host.old host.new result }
     ensures frames { (codec : Codec) (block limit : ℕ) (input : List ℕ)
         → order (map (λ w. string_bytes w) words.now) ≡ Ok (Order.Frames codec block limit input)
-        → has_decoder codec ≡ true
         → RunsInput (framing codec) input limit (H.state host.old) (H.state host.new) result }
     ensures report_faults { (H.state host.old).report.faults ≤ (H.state host.new).report.faults }
 {
@@ -49,13 +48,7 @@ pub fn run_plain<H: Host>(alloc: Global, host: &mut H, words: &[String]) -> Stat
             block,
             limit,
             input,
-        } => {
-            if has_decoder(&codec) {
-                frames(alloc, host, codec, input.as_str(), block, limit)
-            } else {
-                NOT_BUILT
-            }
-        }
+        } => frames(alloc, host, codec, input.as_str(), block, limit),
         Order::Chain { .. } | Order::Relay { .. } | Order::Mill { .. } => NOT_BUILT,
     }
 }

@@ -2,7 +2,7 @@ ghost use Rattle.std.specs.Prelude.{◌≡◌};
 
 use crate::stream_fault::StreamFault;
 use buffered_io::Stop;
-use frame_length::FaultKind;
+use frame_rule::FaultKind;
 use relay_words::UsageKind;
 use std::fmt;
 

@@ -1,8 +1,8 @@
 ghost use Rattle.std.specs.Prelude.{◌≡◌, ◌∷◌, []};
-ghost use Rattle.frame_length.specs.Units.{unit_of};
+ghost use Rattle.frame_rule.specs.Units.{unit_of};
 ghost use Rattle.relay_app.specs.Noting.{fault_after, first_fault};
 
-use frame_length::{FaultKind, FrameUnit};
+use frame_rule::{FaultKind, FrameUnit};
 
 /// A fault in what was read.
 #[derive(Clone, Copy, Debug, PartialEq, Eq)]

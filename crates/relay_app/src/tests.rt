@@ -1,16 +1,16 @@
-ghost use Rattle.frame_head.specs.Laws.{IsLength};
-
 use super::*;
-use frame_length::check;
+use frame_rule::check;
 use relay_ports::{Host, MemHost, MemSink, MemSource};
+use relay_words::{Order, read_words};
 use std::alloc::{AllocError, Global};
+use std::process::Abort;
 use std::test::Fail;
 
-// What a run is tried on and what it comes to: the size of the length field, the input, how many bytes it gives a call,
-// which of its calls and of the report's fail, how many bytes the report takes, the limit, the status and the report.
+// What a run is tried on and what it comes to: the codec, the input, how many bytes it gives a call, which of its calls
+// and of the report's fail, how many bytes the report takes, the limit, the status and the report.
 #[derive(Clone, Copy)]
 struct Try<'a> {
-    field: u8,
+    codec: &'a str,
     input: &'a [u8],
     most: usize,
     input_fails: Option<u64>,
@@ -29,16 +29,16 @@ fn numbers(alloc: Global, n: Option<u64>) -> Result<Vec<u64>, AllocError> {
     Ok(list)
 }
 
-fn length_codec(field: u8) -> Codec
-    ensures { IsLength result }
-{
-    Codec::Length {
-        field,
-        offset: 0,
-        adjust: 0,
-        strip: u32::from(field),
-        little: false,
-        max: 1_048_576,
+// The codec that a word means.
+fn codec_of(alloc: Global, word: &str) -> Result<Option<Codec>, AllocError> {
+    let mut words = words_of(alloc, "frames")?;
+    let codec = String::from_str(alloc, word)?;
+    if words.push(codec).is_err() {
+        return Err(AllocError);
+    }
+    match read_words(alloc, &words) {
+        Ok(Order::Frames { codec, .. }) => Ok(Some(codec)),
+        _ => Ok(None),
     }
 }
 
@@ -67,19 +67,25 @@ fn host_of(
 fn status_of(
     alloc: Global,
     host: &mut MemHost,
-    field: u8,
+    codec: &str,
     block: usize,
     limit: u64,
-) -> Option<Status> {
+) -> Result<Option<Status>, AllocError> {
     if block == 0 || block > 1_048_576 || limit > 1_099_511_627_776 {
-        return None;
+        return Ok(None);
     }
-    let codec = length_codec(field);
+    let Some(codec) = codec_of(alloc, codec)? else {
+        return Ok(None);
+    };
     match check(&codec) {
-        Ok(()) => Some(frames(alloc, host, codec, "", block, limit)),
-        Err(_) => None,
+        Ok(()) => Ok(Some(frames(alloc, host, codec, "", block, limit))),
+        Err(_) => Ok(None),
     }
 }
+
+const ONE_BYTE: &str = "length,field=1,strip=1";
+
+const TWO_BYTES: &str = "length,field=2,strip=2";
 
 const TWO: &[u8] = b"\x03abc\x01x";
 
@@ -87,8 +93,18 @@ const CUT: &[u8] = b"\x00\x05ab";
 
 const WHOLE: &[u8] = b"F 0 3 616263\nF 4 1 78\nend 6\n";
 
+const LINES: &[u8] = b"a\r\n\nbc";
+
+const LINES_REPORT: &[u8] = b"F 0 1 61\nF 3 0 -\nF 4 2 6263\nend 6\n";
+
+const MARKED: &[u8] = b"a\0\0b\0";
+
+const MARKED_REPORT: &[u8] = b"F 0 1 61\nF 2 0 -\nF 3 1 62\nend 5\n";
+
+const EQUAL_REPORT: &[u8] = b"F 0 2 6162\nF 2 2 6364\nX 4 Cut\nend 5\n";
+
 const PLAIN: Try<'static> = Try {
-    field: 1,
+    codec: ONE_BYTE,
     input: TWO,
     most: 100,
     input_fails: None,
@@ -99,10 +115,60 @@ const PLAIN: Try<'static> = Try {
     report: WHOLE,
 };
 
+const OF_LINES: Try<'static> = Try {
+    codec: "line",
+    input: LINES,
+    report: LINES_REPORT,
+    ..PLAIN
+};
+
+const OF_MARKS: Try<'static> = Try {
+    codec: "delim,hex=00|0000",
+    input: MARKED,
+    report: MARKED_REPORT,
+    ..PLAIN
+};
+
+const OF_TWO: Try<'static> = Try {
+    codec: "fixed,size=2",
+    input: b"abcde",
+    status: CUT_AT_4,
+    report: EQUAL_REPORT,
+    ..PLAIN
+};
+
 const CUT_FIELD: Status = Status::Stream {
     at: 0,
     kind: FaultKind::Cut,
 };
+
+const CUT_AT_4: Status = Status::Stream {
+    at: 4,
+    kind: FaultKind::Cut,
+};
+
+const LONG_LINE: Status = Status::Stream {
+    at: 0,
+    kind: FaultKind::TooLong,
+};
+
+// Whether a run comes to what a row says, whatever the size of its blocks.
+fn meets(alloc: Global, rt: &impl Abort, t: &Try) -> Result<(), Fail> {
+    for block in [1usize, 4, 65_536] {
+        // The numbers of failing reads are those of whole blocks.
+        if block == 65_536 || t.input_fails.is_none() {
+            let fails = numbers(alloc, t.input_fails)?;
+            let report_fails = numbers(alloc, t.report_fails)?;
+            let mut host = host_of(alloc, t.input, t.most, fails, t.room, report_fails)?.ok_or(
+                "no room",
+            )?;
+            let status = status_of(alloc, &mut host, t.codec, block, t.limit)?;
+            assert_eq!(rt; status, Some(t.status));
+            assert_eq!(rt; host.sink().bytes(), t.report);
+        }
+    }
+    Ok(())
+}
 
 #[test]
 fn a_run_says_what_happened(rt: HostRuntime) -> Result<(), Fail> {
@@ -115,7 +181,7 @@ fn a_run_says_what_happened(rt: HostRuntime) -> Result<(), Fail> {
             ..PLAIN
         },
         Try {
-            field: 2,
+            codec: TWO_BYTES,
             input: CUT,
             status: CUT_FIELD,
             report: b"X 0 Cut\nend 4\n",
@@ -165,7 +231,7 @@ fn a_run_says_what_happened(rt: HostRuntime) -> Result<(), Fail> {
             ..PLAIN
         },
         Try {
-            field: 2,
+            codec: TWO_BYTES,
             input: CUT,
             report_fails: Some(0),
             status: CUT_FIELD,
@@ -187,7 +253,7 @@ fn a_run_says_what_happened(rt: HostRuntime) -> Result<(), Fail> {
             ..PLAIN
         },
         Try {
-            field: 2,
+            codec: TWO_BYTES,
             input: CUT,
             most: 2,
             input_fails: Some(1),
@@ -196,7 +262,7 @@ fn a_run_says_what_happened(rt: HostRuntime) -> Result<(), Fail> {
             ..PLAIN
         },
         Try {
-            field: 2,
+            codec: TWO_BYTES,
             input: CUT,
             limit: 3,
             status: Status::Limit,
@@ -212,19 +278,117 @@ fn a_run_says_what_happened(rt: HostRuntime) -> Result<(), Fail> {
         },
     ];
     for t in tries {
-        for block in [1usize, 4, 65_536] {
-            // The numbers of failing reads are those of whole blocks.
-            if block == 65_536 || t.input_fails.is_none() {
-                let fails = numbers(alloc, t.input_fails)?;
-                let report_fails = numbers(alloc, t.report_fails)?;
-                let mut host = host_of(alloc, t.input, t.most, fails, t.room, report_fails)?.ok_or(
-                    "no room",
-                )?;
-                let status = status_of(alloc, &mut host, t.field, block, t.limit);
-                assert_eq!(rt; status, Some(t.status));
-                assert_eq!(rt; host.sink().bytes(), t.report);
-            }
-        }
+        meets(alloc, &rt, &t)?;
+    }
+    Ok(())
+}
+
+#[test]
+fn so_does_a_run_by_another_codec(rt: HostRuntime) -> Result<(), Fail> {
+    let alloc = rt.alloc();
+    let tries = [
+        OF_LINES,
+        OF_MARKS,
+        OF_TWO,
+        Try {
+            codec: "line,end=lf,strip=no",
+            report: b"F 0 3 610d0a\nF 3 1 0a\nF 4 2 6263\nend 6\n",
+            ..OF_LINES
+        },
+        Try {
+            codec: "line,end=crlf",
+            report: b"F 0 1 61\nF 3 3 0a6263\nend 6\n",
+            ..OF_LINES
+        },
+        Try {
+            codec: "line,max=2",
+            input: b"abcd\ne",
+            status: LONG_LINE,
+            report: b"X 0 TooLong\nF 5 1 65\nend 6\n",
+            ..OF_LINES
+        },
+        Try {
+            limit: 5,
+            status: Status::Limit,
+            report: b"F 0 1 61\nF 3 0 -\nend 5\n",
+            ..OF_LINES
+        },
+        Try {
+            most: 2,
+            input_fails: Some(1),
+            status: Status::Source,
+            report: b"end 2\n",
+            ..OF_LINES
+        },
+        Try {
+            most: 3,
+            input_fails: Some(1),
+            status: Status::Source,
+            report: b"F 0 1 61\nend 3\n",
+            ..OF_LINES
+        },
+        Try {
+            input_fails: Some(1),
+            status: Status::Source,
+            report: b"F 0 1 61\nF 3 0 -\nend 6\n",
+            ..OF_LINES
+        },
+        Try {
+            room: 12,
+            status: Status::Report,
+            report: b"F 0 1 61\nF 3",
+            ..OF_LINES
+        },
+        Try {
+            most: 4,
+            input_fails: Some(1),
+            status: Status::Source,
+            report: b"F 0 1 61\nF 2 0 -\nend 4\n",
+            ..OF_MARKS
+        },
+        Try {
+            limit: 4,
+            status: Status::Limit,
+            report: b"F 0 1 61\nF 2 0 -\nend 4\n",
+            ..OF_MARKS
+        },
+        Try {
+            report_fails: Some(0),
+            status: Status::Report,
+            report: b"",
+            ..OF_MARKS
+        },
+        Try {
+            codec: "delim,hex=00",
+            input: b"a\0b",
+            status: Status::Stream {
+                at: 2,
+                kind: FaultKind::Cut,
+            },
+            report: b"F 0 1 61\nX 2 Cut\nend 3\n",
+            ..OF_MARKS
+        },
+        Try {
+            most: 3,
+            input_fails: Some(1),
+            status: Status::Source,
+            report: b"F 0 2 6162\nend 3\n",
+            ..OF_TWO
+        },
+        Try {
+            limit: 3,
+            status: Status::Limit,
+            report: b"F 0 2 6162\nend 3\n",
+            ..OF_TWO
+        },
+        Try {
+            room: 8,
+            report: b"F 0 2 61",
+            ..OF_TWO
+        },
+    ];
+    for t in tries {
+        meets(alloc, &rt, &t)?;
     }
     Ok(())
 }
@@ -266,9 +430,6 @@ fn words_that_are_bad_are_refused(rt: HostRuntime) -> Result<(), Fail> {
         ("frames line x --limit y", 2, UsageKind::Extra),
         ("relay line --in a --out raw a", 6, UsageKind::InOut),
         // Good commands that can't run yet.
-        ("frames line", 0, UsageKind::NotBuilt),
-        ("frames delim,hex=0a", 0, UsageKind::NotBuilt),
-        ("frames fixed,size=3", 0, UsageKind::NotBuilt),
         ("chain", 0, UsageKind::NotBuilt),
         ("relay line --out raw a", 0, UsageKind::NotBuilt),
         ("mill 3", 0, UsageKind::NotBuilt),
@@ -288,7 +449,7 @@ fn words_that_are_bad_are_refused(rt: HostRuntime) -> Result<(), Fail> {
 #[test]
 fn good_words_run(rt: HostRuntime) -> Result<(), Fail> {
     let alloc = rt.alloc();
-    let tries: [(&str, Status, &[u8]); 15] = [
+    let tries: [(&str, Status, &[u8]); 18] = [
         ("length,field=1,strip=1", Status::Fine, WHOLE),
         ("length,strip=1,field=1 --block 1", Status::Fine, WHOLE),
         (
@@ -333,6 +494,20 @@ fn good_words_run(rt: HostRuntime) -> Result<(), Fail> {
             CUT_FIELD,
             b"X 0 Cut\nend 2\n",
         ),
+        (
+            "delim,hex=63|01",
+            Status::Stream {
+                at: 5,
+                kind: FaultKind::Cut,
+            },
+            b"F 0 3 036162\nF 4 0 -\nX 5 Cut\nend 6\n",
+        ),
+        (
+            "fixed,size=3 --block 2",
+            Status::Fine,
+            b"F 0 3 036162\nF 3 3 630178\nend 6\n",
+        ),
+        ("line --in named", Status::Fine, b"F 0 2 0179\nend 2\n"),
         (
             "length,field=1 --in other",
             Status::NotOpened { nth: 0 },
@@ -385,7 +560,7 @@ fn a_long_report_is_a_prefix_where_a_write_fails(rt: HostRuntime) -> Result<(), 
         let fails_at = numbers(alloc, Some(fails))?;
         let none = Vec::new(alloc);
         let mut host = host_of(alloc, &input, 1000, none, 1_000_000, fails_at)?.ok_or("no room")?;
-        let got = status_of(alloc, &mut host, 1, 4096, 1_000_000);
+        let got = status_of(alloc, &mut host, ONE_BYTE, 4096, 1_000_000)?;
         assert_eq!(rt; got, Some(status));
         let written = host.sink().bytes();
         assert!(rt;

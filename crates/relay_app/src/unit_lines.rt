@@ -1,12 +1,13 @@
 ghost use Rattle.std.specs.Prelude.{◌≡◌, ◌++◌, codes, decimal, length};
 ghost use Rattle.hex.specs.Hex.{encode_lower};
-ghost use Rattle.frame_length.specs.Units.{unit_of};
-ghost use Rattle.plain_chain.specs.Segments.{bytes_of};
+ghost use Rattle.frame_rule.specs.Units.{unit_of};
+ghost use Rattle.buffer_model.specs.Segment.{bytes_of};
 ghost use Rattle.buffered_io.specs.Writing.{PrintsTo, outlet};
 ghost use Rattle.relay_app.specs.Text.{end_line, fault_line, frame_line, hex_or_dash, kind_name, unit_line};
 
 use buffered_io::Printer;
-use frame_length::{FaultKind, Frame, FrameUnit};
+use frame_rule::{FaultKind, FrameUnit};
+use iobuf_chain::Frame;
 use relay_ports::Sink;
 
 /// Prints the line of a unit.
@@ -74,14 +75,15 @@ fn print_bytes<W: Sink>(printer: &mut Printer, sink: &mut W, frame: &Frame)
         printer.put(sink, b"-");
         return;
     }
-    print_segments(printer, sink, frame);
+    print_nodes(printer, sink, frame);
 }
 
-fn print_segments<W: Sink>(printer: &mut Printer, sink: &mut W, frame: &Frame)
+// The bytes of a frame's nodes in hexadecimal, in order.
+fn print_nodes<W: Sink>(printer: &mut Printer, sink: &mut W, frame: &Frame)
     ensures { PrintsTo (encode_lower (bytes_of frame.now))
         (outlet printer.old (W.state sink.old)) (outlet printer.new (W.state sink.new)) }
 {
-    'segments: for i in 0..frame.elements() {
-        printer.put_hexadecimal(sink, frame.segment(i));
+    'nodes: for i in 0..frame.elements() {
+        printer.put_hexadecimal(sink, frame.node(i).bytes());
     }
 }

@@ -15,8 +15,8 @@ returns-then-is_err g c =
 pub returns : goal.returns
 returns g c =
     λ codec w h s.
-    let U : Cutting → Type 0 = λ x. HasUnits w (units_read codec h (is_end c.args.stop)) x (g.W.Sink.state c.end.new.report) in
+    let U : Cutting _ → Type 0 = λ x. HasUnits w (units_read codec h (is_end c.args.stop)) x (g.W.Sink.state c.end.new.report) in
     let has = at_ok c.end.result c.if-is_err.ensures.value c.end.ensures.ended codec w h s in
-    let read : c.self.inside.read ≡ length h = ap (λ (x : Cutting). x.read) c.self.view_is ∙ c.end.ensures.read ∙ s.read in
+    let read : c.self.inside.read ≡ length h = ap (λ (x : Cutting _). x.read) c.self.view_is ∙ c.end.ensures.read ∙ s.read in
     closed_on codec h c.args.stop (subst U (sym c.self.view_is) has)
     (prints_same (append-nil (end_line c.self.inside.read) ∙ ap end_line read) (prints_both c.print_end.ensures c.flush.ensures.prints)) c.flush.ensures.empty (c.at_stop.ensures ∙ ap (λ b. status_at c.args.stop c.self.inside.fault b) c.failed.ensures)

@@ -1,0 +1,307 @@
+-- What is cut off, given back and handed out keeps totals, and shares data.
+use Rattle.std.specs.Option.{is_some}
+use Rattle.std.proofs.Common.{Bool, true, false, not, Result, Ok, Err, OnErr, ◌≡◌, ℕ, zero, suc, ◌-◌, ◌≤◌, List, [], ◌∷◌, ◌++◌, Option, Some, None, length, take, slice_get, refl, ap, sym, subst, ◌∙◌, append_assoc, append-nil, arith, inl, inr, length-drop}
+use Rattle.storage.specs.declared.release.NoOwner.{NoOwner}
+use Rattle.storage.specs.declared.back.Back.{Back}
+use Rattle.storage.specs.Back.{stakes_in}
+use Rattle.buffer_model.specs.Share.{Share, IsManaged, wrapped}
+use Rattle.buffer_model.specs.Segment.{Segment, bytes_of, whole_window}
+use Rattle.buffer_model.specs.Stake.{Stake, Keeps, KeepsTotals, KeepsTotalsBelow}
+use Rattle.buffer_model.specs.Minted.{Numbers}
+use Rattle.buffer_model.proofs.Totals.{keeps_same, keeps_equal, keeps_then, keeps_below_then, keeps-append, keeps_wrapped_out, total-append, one_way-append, one_way-front, one_way-back}
+use Rattle.iobuf_chain.specs.Accounts.{held_by}
+use Rattle.iobuf_chain.specs.Copies.{HasNumber, WithData, CopiesNoData, IsHeavy, IsStout, IsShareable}
+use Rattle.iobuf_chain.specs.Trims.{trimmed_front, trimmed_back}
+use Rattle.iobuf_chain.proofs.Accounts.{held_by-append}
+use Rattle.iobuf_chain.proofs.Copied.{each_append, each_before, each_behind, each_map, own_numbers, heavy_is_stout}
+use Rattle.frame_rule.specs.declared.haul.Haul.{Haul}
+use Rattle.frame_rule.specs.declared.unit.FrameUnit.{FrameUnit}
+use Rattle.frame_rule.specs.declared.unit.FrameUnit.TheVariants.{Frame, Fault}
+use Rattle.frame_rule.specs.Units.{nodes_in}
+use Rattle.frame_rule.specs.Hauls.{Begins, CutsShare, GivesUp, Moves, NumbersOn, SameHaul, SharesData, hauled, nodes_if, stakes_back}
+
+nodes_in-append : (us vs : List FrameUnit) → nodes_in (us ++ vs) ≡ nodes_in us ++ nodes_in vs
+nodes_in-append [] vs = refl
+nodes_in-append (Frame at chain ∷ us) vs = ap (λ ns. chain ++ ns) (nodes_in-append us vs) ∙ sym (append_assoc chain (nodes_in us) (nodes_in vs))
+nodes_in-append (Fault at kind ∷ us) vs = nodes_in-append us vs
+
+stakes_back-append : (rs ss : List (List (Back NoOwner))) → stakes_back (rs ++ ss) ≡ stakes_back rs ++ stakes_back ss
+stakes_back-append [] ss = refl
+stakes_back-append (r ∷ rs) ss = ap (λ w. stakes_in r ++ w) (stakes_back-append rs ss) ∙ sym (append_assoc (stakes_in r) (stakes_back rs) (stakes_back ss))
+
+-- what a haul of these parts has
+abbrev pub parts_hauled : List FrameUnit → List (List (Back NoOwner)) → Option (List (Segment NoOwner)) → List (Stake NoOwner)
+parts_hauled us bs piece = held_by (nodes_in us) ++ (stakes_back bs ++ held_by (nodes_if piece))
+
+pub hauled_as : (k : Haul) (us : List FrameUnit) (bs : List (List (Back NoOwner))) (piece : Option (List (Segment NoOwner)))
+    → k.units.items ≡ us → k.back.items ≡ bs → k.refused ≡ piece → hauled k ≡ parts_hauled us bs piece
+hauled_as k us bs piece u b p =
+    ap (λ w. parts_hauled w k.back.items k.refused) u ∙ ap (λ w. parts_hauled us w k.refused) b ∙ ap (λ w. parts_hauled us bs w) p
+
+pub same_hauled : (h k : Haul) → SameHaul h k → hauled k ≡ hauled h
+same_hauled h k same = hauled_as k h.units.items h.back.items h.refused same.0 same.1 same.2
+
+pub begins_same : {X : Type 0} (xs ys : List X) → ys ≡ xs → Begins xs ys
+begins_same xs ys e = record { added = []; longer_is = e ∙ sym (append-nil xs) }
+
+pub begins_further : {X : Type 0} (xs ys zs : List X) → Begins xs ys → Begins ys zs → Begins xs zs
+begins_further xs ys zs p q = record { added = p.added ++ q.added; longer_is = q.longer_is ∙ ap (λ w. w ++ q.added) p.longer_is ∙ append_assoc xs p.added q.added }
+
+pub numbers_same : (m n : Numbers) → n ≡ m → NumbersOn m n
+numbers_same m n e = let P : Numbers → Type 0 = λ w. NumbersOn m w in subst P (sym e) ((λ k t is. is), omega arith)
+
+pub numbers_further : (a b c : Numbers) → NumbersOn a b → NumbersOn b c → NumbersOn a c
+numbers_further a b c p q = ((λ n t is. q.0 n t (p.0 n t is)), omega (arith, p.1, q.1))
+
+-- a part in front comes behind the first of three, or behind the second
+pub behind_first : (x u w : List (Stake NoOwner)) → KeepsTotals (x ++ (u ++ w)) ((u ++ x) ++ w)
+behind_first x u w n = record {
+  total = let a = total-append n x (u ++ w) in let b = total-append n u w in let c = total-append n (u ++ x) w in let d = total-append n u x in omega (arith, a, b, c, d);
+  way = λ kind is.
+      let back = one_way-back n kind x (u ++ w) is in
+      one_way-append n kind (u ++ x) w (one_way-append n kind u x (one_way-front n kind u w back) (one_way-front n kind x (u ++ w) is)) (one_way-back n kind u w back);
+}
+
+beside_first : (u v w : List (Stake NoOwner)) → KeepsTotals v w → KeepsTotals (u ++ v) (u ++ w)
+beside_first u v w keeps n = keeps-append n u v u w (keeps_same u n) (keeps n)
+
+behind_second : (x u b q : List (Stake NoOwner)) → KeepsTotals (x ++ (u ++ (b ++ q))) (u ++ ((b ++ x) ++ q))
+behind_second x u b q =
+    keeps_then _ _ _ (behind_first x u (b ++ q))
+    (keeps_then _ _ _ (keeps_equal _ _ (append_assoc u x (b ++ q))) (beside_first u (x ++ (b ++ q)) ((b ++ x) ++ q) (behind_first x b q)))
+
+-- what nodes hand back comes behind all that was handed back before
+pub returned_hauled : (h k : Haul) (r : List (Back NoOwner)) → k.units.items ≡ h.units.items → k.back.items ≡ h.back.items ++ r ∷ [] → k.refused ≡ h.refused
+    → KeepsTotals (stakes_in r ++ hauled h) (hauled k)
+returned_hauled h k r u b p =
+    let q : List (Stake NoOwner) = held_by (nodes_if h.refused) in
+    keeps_then _ _ _ (behind_second (stakes_in r) (held_by (nodes_in h.units.items)) (stakes_back h.back.items) q)
+    (keeps_equal _ _ (ap (λ w. held_by (nodes_in h.units.items) ++ ((stakes_back h.back.items ++ w) ++ q)) (sym (append-nil (stakes_in r)))
+    ∙ ap (λ w. held_by (nodes_in h.units.items) ++ (w ++ q)) (sym (stakes_back-append h.back.items (r ∷ []))) ∙ sym (hauled_as k h.units.items (h.back.items ++ r ∷ []) h.refused u b p)))
+
+-- a frame comes behind all units before
+pub framed_hauled : (h k : Haul) (at : ℕ) (frame : List (Segment NoOwner)) → k.units.items ≡ h.units.items ++ Frame at frame ∷ [] → k.back.items ≡ h.back.items → k.refused ≡ h.refused
+    → KeepsTotals (held_by frame ++ hauled h) (hauled k)
+framed_hauled h k at frame u b p =
+    let us : List (Segment NoOwner) = nodes_in h.units.items in
+    let rest : List (Stake NoOwner) = stakes_back h.back.items ++ held_by (nodes_if h.refused) in
+    let nodes : nodes_in (h.units.items ++ Frame at frame ∷ []) ≡ us ++ frame = nodes_in-append h.units.items (Frame at frame ∷ []) ∙ ap (λ w. us ++ w) (append-nil frame) in
+    keeps_then _ _ _ (behind_first (held_by frame) (held_by us) rest)
+    (keeps_equal _ _ (ap (λ w. w ++ rest) (sym (held_by-append us frame) ∙ ap held_by (sym nodes)) ∙ sym (hauled_as k (h.units.items ++ Frame at frame ∷ []) h.back.items h.refused u b p)))
+
+-- a fault has nothing of a storage
+pub fault_hauled : (h k : Haul) (u : FrameUnit) → nodes_in (u ∷ []) ≡ [] → k.units.items ≡ h.units.items ++ u ∷ [] → k.back.items ≡ h.back.items → k.refused ≡ h.refused → hauled k ≡ hauled h
+fault_hauled h k u none us b p =
+    hauled_as k (h.units.items ++ u ∷ []) h.back.items h.refused us b p
+    ∙ ap (λ w. held_by w ++ (stakes_back h.back.items ++ held_by (nodes_if h.refused))) (nodes_in-append h.units.items (u ∷ []) ∙ ap (λ w. nodes_in h.units.items ++ w) none ∙ append-nil (nodes_in h.units.items))
+
+-- nodes that were cut off went into the haul as something that has as much of each storage
+moved : (m : ℕ) (before after front : List (Segment NoOwner)) (x : List (Stake NoOwner)) (h k : List (Stake NoOwner))
+    → KeepsTotalsBelow m (held_by before) (held_by (after ++ front)) → KeepsTotals (held_by front) x → KeepsTotals (x ++ h) k
+    → KeepsTotalsBelow m (held_by before ++ h) (held_by after ++ k)
+moved m before after front x h k cut given taken n lt =
+    let apart : held_by (after ++ front) ++ h ≡ held_by after ++ (held_by front ++ h) = ap (λ w. w ++ h) (held_by-append after front) ∙ append_assoc (held_by after) (held_by front) h in
+    let first : Keeps (held_by before ++ h) (held_by (after ++ front) ++ h) n = keeps-append n (held_by before) h (held_by (after ++ front)) h (cut n lt) (keeps_same h n) in
+    let beside : KeepsTotals (held_by front ++ h) (x ++ h) = λ i. keeps-append i (held_by front) h x h (given i) (keeps_same h i) in
+    let second : KeepsTotals (held_by (after ++ front) ++ h) (held_by after ++ k) =
+    keeps_then _ _ _ (keeps_equal _ _ apart) (beside_first (held_by after) (held_by front ++ h) k (keeps_then _ _ _ beside taken)) in record {
+      total = (second n).total ∙ first.total;
+      way = λ kind is. (second n).way kind (first.way kind is);
+    }
+
+-- nothing was cut off
+pub moves_none : (m n : Numbers) (before after : List (Segment NoOwner)) (h k : Haul) → KeepsTotalsBelow (length m) (held_by before) (held_by (after ++ [])) → NumbersOn m n → SameHaul h k → Moves m n before after h k
+moves_none m n before after h k keeps numbers same = record {
+  totals = moved (length m) before after [] [] (hauled h) (hauled k) keeps (keeps_same []) (keeps_equal _ _ (sym (same_hauled h k same)));
+  mint = numbers;
+  back = begins_same h.back.items k.back.items same.1;
+  refused = same.2;
+}
+
+pub moves_still : (m n : Numbers) (nodes after : List (Segment NoOwner)) (h k : Haul) → n ≡ m → after ≡ nodes → SameHaul h k → Moves m n nodes after h k
+moves_still m n nodes after h k number stay same =
+    moves_none m n nodes after h k (λ i lt. keeps_equal (held_by nodes) (held_by (after ++ [])) (ap held_by (sym (append-nil nodes) ∙ ap (λ w. w ++ []) (sym stay))) i) (numbers_same m n number) same
+
+-- what was cut off is given back
+pub moves_back : (m n : Numbers) (before after front : List (Segment NoOwner)) (h k : Haul) (r : List (Back NoOwner)) → KeepsTotalsBelow (length m) (held_by before) (held_by (after ++ front)) → NumbersOn m n → KeepsTotals (held_by front) (stakes_in r)
+    → k.units.items ≡ h.units.items → k.back.items ≡ h.back.items ++ r ∷ [] → k.refused ≡ h.refused → Moves m n before after h k
+moves_back m n before after front h k r keeps numbers given u b p = record {
+  totals = moved (length m) before after front (stakes_in r) (hauled h) (hauled k) keeps given (returned_hauled h k r u b p);
+  mint = numbers;
+  back = record { added = r ∷ []; longer_is = b };
+  refused = p;
+}
+
+-- what was cut off is a frame
+pub moves_frame : (m n : Numbers) (before after front frame : List (Segment NoOwner)) (h k : Haul) (at : ℕ) → KeepsTotalsBelow (length m) (held_by before) (held_by (after ++ front)) → NumbersOn m n → KeepsTotals (held_by front) (held_by frame)
+    → k.units.items ≡ h.units.items ++ Frame at frame ∷ [] → k.back.items ≡ h.back.items → k.refused ≡ h.refused → Moves m n before after h k
+moves_frame m n before after front frame h k at keeps numbers given u b p = record {
+  totals = moved (length m) before after front (held_by frame) (hauled h) (hauled k) keeps given (framed_hauled h k at frame u b p);
+  mint = numbers;
+  back = begins_same h.back.items k.back.items b;
+  refused = p;
+}
+
+-- one part after another
+pub moves_further : (a b c : Numbers) (x y z : List (Segment NoOwner)) (h k l : Haul) → Moves a b x y h k → Moves b c y z k l → Moves a c x z h l
+moves_further a b c x y z h k l p q = record {
+  totals = keeps_below_then (length a) (length b) _ _ _ p.mint.1 p.totals q.totals;
+  mint = numbers_further a b c p.mint q.mint;
+  back = begins_further h.back.items k.back.items l.back.items p.back q.back;
+  refused = q.refused ∙ p.refused;
+}
+
+-- from a haul of the same units, returns and piece
+pub moves_from : (a b : Numbers) (x y : List (Segment NoOwner)) (h k l : Haul) → SameHaul h k → Moves a b x y k l → Moves a b x y h l
+moves_from a b x y h k l same p = moves_further a a b x x y h k l (moves_still a a x x h k refl refl same) p
+
+-- a haul that gains nothing of a storage, and nothing that was handed back
+pub moves_on : (a b : Numbers) (x y : List (Segment NoOwner)) (h k l : Haul) → Moves a b x y h k → hauled l ≡ hauled k → l.back.items ≡ k.back.items → l.refused ≡ k.refused → Moves a b x y h l
+moves_on a b x y h k l p same back piece = record {
+  totals = let P : List (Stake NoOwner) → Type 0 = λ w. KeepsTotalsBelow (length a) (held_by x ++ hauled h) (held_by y ++ w) in subst P (sym same) p.totals;
+  mint = p.mint;
+  back = begins_further h.back.items k.back.items l.back.items p.back (begins_same k.back.items l.back.items back);
+  refused = piece ∙ p.refused;
+}
+
+-- a fault comes behind all units before
+pub moves_fault : (a b : Numbers) (x y : List (Segment NoOwner)) (h k l : Haul) (u : FrameUnit) → Moves a b x y h k → nodes_in (u ∷ []) ≡ []
+    → l.units.items ≡ k.units.items ++ u ∷ [] → l.back.items ≡ k.back.items → l.refused ≡ k.refused → Moves a b x y h l
+moves_fault a b x y h k l u p none us back piece = moves_on a b x y h k l p (fault_hauled k l u none us back piece) back piece
+
+-- a chain without a storage has nothing of one
+pub gives_up_nothing : (s : Segment NoOwner) (nodes : List (Segment NoOwner)) (h k : Haul) → nodes ≡ s ∷ [] → s.share.number ≡ None → SameHaul h k → GivesUp nodes h k
+gives_up_nothing s nodes h k is none same = record {
+  units = same.0;
+  refused = same.2;
+  back = begins_same h.back.items k.back.items same.1;
+  totals = λ n.
+      let P : List (Segment NoOwner) → Type 0 = λ w. Keeps (held_by w ++ hauled h) (hauled h) n in
+      let Q : List (Stake NoOwner) → Type 0 = λ w. Keeps (held_by nodes ++ hauled h) w n in
+      subst Q (sym (same_hauled h k same)) (subst P (sym is) (keeps-append n (held_by (s ∷ [])) (hauled h) [] (hauled h) (keeps_wrapped_out s.share none n) (keeps_same (hauled h) n)));
+}
+
+pub gives_up_back : (nodes : List (Segment NoOwner)) (h k : Haul) (r : List (Back NoOwner)) → KeepsTotals (held_by nodes) (stakes_in r) → k.units.items ≡ h.units.items → k.back.items ≡ h.back.items ++ r ∷ [] → k.refused ≡ h.refused → GivesUp nodes h k
+gives_up_back nodes h k r given u b p = record {
+  units = u;
+  refused = p;
+  back = record { added = r ∷ []; longer_is = b };
+  totals = λ n. (keeps_then _ _ _ (λ i. keeps-append i (held_by nodes) (hauled h) (stakes_in r) (hauled h) (given i) (keeps_same (hauled h) i)) (returned_hauled h k r u b p)) n;
+}
+
+-- a number that nodes with data have, of which each has one that was there, was there
+number_there : (n : Option ℕ) (had has : List (Segment NoOwner)) → HasNumber n has → CopiesNoData had has → HasNumber n had
+number_there n had [] is copies = absurd is
+number_there n had (s ∷ ss) (inl is) copies = let P : Option ℕ → Type 0 = λ k. HasNumber k had in subst P is.1 (copies.0 is.0)
+number_there n had (s ∷ ss) (inr is) copies = number_there n had ss is copies.1
+
+copies_further : (xs ys zs : List (Segment NoOwner)) → CopiesNoData xs ys → CopiesNoData ys zs → CopiesNoData xs zs
+copies_further xs ys zs p q = each_map _ _ zs (λ s is some. number_there s.share.number xs ys (is some) p) q
+
+-- what holds of the shares of nodes with data still holds where bytes leave
+with_front : (P : Share NoOwner → Type 0) (n : ℕ) (ss : List (Segment NoOwner)) → WithData (λ s. P s.share) ss → WithData (λ s. P s.share) (trimmed_front n ss)
+with_front P n [] is = tt
+with_front P n (s ∷ ss) is = ((λ some. is.0 (let size = length-drop n s.window in omega (arith, some, size))), with_front P (n - length s.window) ss is.1)
+
+length_take : (n : ℕ) (xs : List ℕ) → length (take n xs) ≤ length xs
+length_take zero xs = omega arith
+length_take (suc n) [] = omega arith
+length_take (suc n) (x ∷ xs) = let more = length_take n xs in omega (arith, more)
+
+with_back : (P : Share NoOwner → Type 0) (n : ℕ) (ss : List (Segment NoOwner)) → WithData (λ s. P s.share) ss → WithData (λ s. P s.share) (trimmed_back n ss)
+with_back P n [] is = tt
+with_back P n (s ∷ ss) is =
+    ((λ some. is.0 (let m : ℕ = length s.window - (n - length (bytes_of ss)) in let size = length_take m s.window in omega (arith, some, size))), with_back P n ss is.1)
+
+abbrev is_stout : Share NoOwner → Type 0
+is_stout sh = IsManaged sh × (1024 ≤ sh.weight)
+
+abbrev has_number : List (Segment NoOwner) → Share NoOwner → Type 0
+has_number had sh = HasNumber sh.number had
+
+-- a cut that goes as a whole: nothing stays but a node without data
+pub cuts_whole : (had front rest : List (Segment NoOwner)) → WithData IsHeavy had → front ≡ had → rest ≡ whole_window [] wrapped ∷ [] → CutsShare had front rest
+cuts_whole had front rest heavy all none =
+    let F : List (Segment NoOwner) → Type 0 = λ w. CopiesNoData had w × WithData IsStout w in
+    let R : List (Segment NoOwner) → Type 0 = λ w. CopiesNoData had w × WithData IsHeavy w in
+    let f : F front = subst F (sym all) (own_numbers had, each_map _ _ had (λ s is some. heavy_is_stout s (is some)) heavy) in
+    let r : R rest = subst R (sym none) (((λ some. absurd (omega (arith, some))), tt), ((λ some. absurd (omega (arith, some))), tt)) in
+    record { front_copies = f.0; rest_copies = r.0; stout = f.1; heavy = r.1 }
+
+pub heavy_shareable : (nodes : List (Segment NoOwner)) → WithData IsHeavy nodes → WithData IsShareable nodes
+heavy_shareable nodes heavy = each_map _ _ nodes (λ s is some. (let weight = (is some).1 in omega (arith, weight))) heavy
+
+-- nothing was cut off
+pub shares_still : (nodes : List (Segment NoOwner)) (us vs : List FrameUnit) → WithData IsHeavy nodes → vs ≡ us → SharesData nodes nodes us vs
+shares_still nodes us vs heavy same = record {
+  added = [];
+  haul = same ∙ sym (append-nil us);
+  copies = let P : List (Segment NoOwner) → Type 0 = λ w. CopiesNoData nodes w in subst P (sym (append-nil nodes)) (own_numbers nodes);
+  heavy = heavy;
+  stout = tt;
+}
+
+-- what was cut off is given back
+pub shares_back : (had front rest : List (Segment NoOwner)) (us vs : List FrameUnit) → CutsShare had front rest → vs ≡ us → SharesData had rest us vs
+shares_back had front rest us vs cut same = record {
+  added = [];
+  haul = same ∙ sym (append-nil us);
+  copies = let P : List (Segment NoOwner) → Type 0 = λ w. CopiesNoData had w in subst P (sym (append-nil rest)) cut.rest_copies;
+  heavy = cut.heavy;
+  stout = tt;
+}
+
+-- and a fault is added
+pub shares_fault : (had rest : List (Segment NoOwner)) (us vs ws : List FrameUnit) (u : FrameUnit) → SharesData had rest vs vs → vs ≡ us → nodes_in (u ∷ []) ≡ [] → ws ≡ vs ++ u ∷ [] → SharesData had rest us ws
+shares_fault had rest us vs ws u shares same none more = record {
+  added = u ∷ [];
+  haul = more ∙ ap (λ w. w ++ u ∷ []) same;
+  copies =
+      let P : List (Segment NoOwner) → Type 0 = λ w. CopiesNoData had (rest ++ w) in
+      subst P (sym none) (let Q : List (Segment NoOwner) → Type 0 = λ w. CopiesNoData had w in subst Q (sym (append-nil rest)) (each_before _ rest (nodes_in shares.added) shares.copies));
+  heavy = shares.heavy;
+  stout = let P : List (Segment NoOwner) → Type 0 = λ w. WithData IsStout w in subst P (sym none) tt;
+}
+
+-- what was cut off is a frame, without its edges
+pub shares_frame : (had front rest : List (Segment NoOwner)) (us vs : List FrameUnit) (at m n : ℕ) → CutsShare had front rest → vs ≡ us ++ Frame at (trimmed_front m (trimmed_back n front)) ∷ [] → SharesData had rest us vs
+shares_frame had front rest us vs at m n cut more =
+    let frame : List (Segment NoOwner) = trimmed_front m (trimmed_back n front) in record {
+      added = Frame at frame ∷ [];
+      haul = more;
+      copies = each_append _ rest (frame ++ []) cut.rest_copies
+          (each_append _ frame [] (with_front (has_number had) m (trimmed_back n front) (with_back (has_number had) n front cut.front_copies)) tt);
+      heavy = cut.heavy;
+      stout = each_append _ frame [] (with_front is_stout m (trimmed_back n front) (with_back is_stout n front cut.stout)) tt;
+    }
+
+-- one part after another
+pub shares_further : (a b c : List (Segment NoOwner)) (us vs ws : List FrameUnit) → SharesData a b us vs → SharesData b c vs ws → SharesData a c us ws
+shares_further a b c us vs ws p q =
+    let ps : List (Segment NoOwner) = nodes_in p.added in
+    let qs : List (Segment NoOwner) = nodes_in q.added in
+    let mid = each_before _ b ps p.copies in
+    let far = copies_further a b (c ++ qs) mid q.copies in
+    let nodes : nodes_in (p.added ++ q.added) ≡ ps ++ qs = nodes_in-append p.added q.added in
+    let P : List (Segment NoOwner) → Type 0 = λ w. CopiesNoData a (c ++ w) in
+    let Q : List (Segment NoOwner) → Type 0 = λ w. WithData IsStout w in record {
+      added = p.added ++ q.added;
+      haul = q.haul ∙ ap (λ w. w ++ q.added) p.haul ∙ append_assoc us p.added q.added;
+      copies = subst P (sym nodes) (each_append _ c (ps ++ qs) (each_before _ c qs far) (each_append _ ps qs (each_behind _ b ps p.copies) (each_behind _ c qs far)));
+      heavy = q.heavy;
+      stout = subst Q (sym nodes) (each_append _ ps qs p.stout q.stout);
+    }
+
+pub one_node : {X : Type 0} (xs : List X) (x : X) (n : ℕ) → n ≡ length xs → n ≡ 1 → slice_get xs 0 ≡ Some x → xs ≡ x ∷ []
+one_node [] x n size one is = absurd (omega (arith, size, one))
+one_node (y ∷ []) x n size one is = let same : y ≡ x = cc in ap (λ w. w ∷ []) same
+one_node (y ∷ z ∷ zs) x n size one is = absurd (omega (arith, size, one))
+
+pub on_err : {A E P : Type 0} (r : Result A E) → P → OnErr r P
+on_err (Ok a) p = tt
+on_err (Err e) p = p
+
+pub none_of : (o p : Option ℕ) (b : Bool) → is_some o ≡ not b → o ≡ p → b ≡ true → p ≡ None
+none_of None p b is same holds = sym same
+none_of (Some n) p true is same holds = absurd (cc is)
+none_of (Some n) p false is same holds = absurd (cc holds)

@@ -1,0 +1,88 @@
+-- What a haul has of storages, and what calls put into it.
+use Rattle.std.specs.Prelude.{◌<◌, ◌≡◌, ◌⊎◌, ◌≤◌, List, [], ◌∷◌, ◌++◌, Option, Some, None, length}
+use Rattle.std.specs.List.{AllZip}
+use Rattle.storage.specs.declared.release.NoOwner.{NoOwner}
+use Rattle.storage.specs.declared.back.Back.{Back}
+use Rattle.storage.specs.Back.{GivesBack, stakes_in}
+use Rattle.buffer_model.specs.Segment.{Segment, bytes_of, hold_of}
+use Rattle.buffer_model.specs.Stake.{Stake, KeepsTotals, KeepsTotalsBelow}
+use Rattle.buffer_model.specs.Minted.{Numbers, StayNumbered}
+use Rattle.iobuf_chain.specs.Accounts.{held_by}
+use Rattle.iobuf_chain.specs.Copies.{CopiesNoData, IsHeavy, IsStout, WithData}
+use Rattle.frame_rule.specs.declared.haul.Haul.{Haul}
+use Rattle.frame_rule.specs.declared.unit.FrameUnit.{FrameUnit}
+use Rattle.frame_rule.specs.Units.{nodes_in}
+
+-- what was handed back has of storages
+abbrev pub stakes_back : List (List (Back NoOwner)) → List (Stake NoOwner)
+stakes_back [] = []
+stakes_back (r ∷ rs) = stakes_in r ++ stakes_back rs
+
+-- the nodes of a piece that may be there
+abbrev pub nodes_if : Option (List (Segment NoOwner)) → List (Segment NoOwner)
+nodes_if None = []
+nodes_if (Some nodes) = nodes
+
+-- what a haul has of storages: by its frames, by what was handed back, and by a piece that was refused
+abbrev pub hauled : Haul → List (Stake NoOwner)
+hauled h = held_by (nodes_in h.units.items) ++ (stakes_back h.back.items ++ held_by (nodes_if h.refused))
+
+-- `longer` is `shorter` with something added at its end
+pub record Begins {X : Type 0} (shorter longer : List X) : Type 0 where
+  pub added : List X
+  pub longer_is : longer ≡ shorter ++ added
+
+-- what the nodes of a chain hand back, one for each, in order
+abbrev pub AreReturns : List (Segment NoOwner) → List (Back NoOwner) → Type 0
+AreReturns nodes backs = AllZip (λ s b. GivesBack (λ (n : NoOwner). n.runs) (λ n. None) (hold_of s) b) nodes backs
+
+-- a haul of the same units, returns and piece
+abbrev pub SameHaul : Haul → Haul → Type 0
+SameHaul old new =
+    (new.units.items ≡ old.units.items) × (new.back.items ≡ old.back.items) × (new.refused ≡ old.refused)
+
+-- a haul before and after a dead decoder was fed a piece: what that handed back was added where there was room
+pub record ReturnsPiece (piece : List (Segment NoOwner)) (old new : Haul) : Type 0 where
+  pub units : new.units.items ≡ old.units.items
+  pub refused : new.refused ≡ old.refused
+  pub back : (new.back.items ≡ old.back.items)
+      ⊎ ((backs : List (Back NoOwner)) × AreReturns piece backs × (new.back.items ≡ old.back.items ++ backs ∷ []))
+
+-- no data was copied: the nodes with data that are kept, and those of the units that were added, have storages of these nodes; and they can still be cut, and be shared
+pub record SharesData (had kept : List (Segment NoOwner)) (old new : List FrameUnit) : Type 0 where
+  pub added : List FrameUnit
+  pub haul : new ≡ old ++ added
+  pub copies : CopiesNoData had (kept ++ nodes_in added)
+  pub heavy : WithData IsHeavy kept
+  pub stout : WithData IsStout (nodes_in added)
+
+-- a mint numbered more storages, or none
+abbrev pub NumbersOn : Numbers → Numbers → Type 0
+NumbersOn old new = StayNumbered old new × (length old ≤ length new)
+
+-- nodes, the haul and the mint before and after: nothing of a storage is lost, and nothing that was handed back
+pub record Moves (old new : Numbers) (before after : List (Segment NoOwner)) (haul now : Haul) : Type 0 where
+  pub totals : KeepsTotalsBelow (length old) (held_by before ++ hauled haul) (held_by after ++ hauled now)
+  pub mint : NumbersOn old new
+  pub back : Begins haul.back.items now.back.items
+  pub refused : now.refused ≡ haul.refused
+
+-- nodes that were cut off, and those that stay: no data was copied, they can still be shared, and these can still be cut
+pub record CutsShare (had front rest : List (Segment NoOwner)) : Type 0 where
+  pub front_copies : CopiesNoData had front
+  pub rest_copies : CopiesNoData had rest
+  pub stout : WithData IsStout front
+  pub heavy : WithData IsHeavy rest
+
+-- what nodes hand back was added to a haul, or there was no storage under them
+pub record GivesUp (nodes : List (Segment NoOwner)) (old new : Haul) : Type 0 where
+  pub units : new.units.items ≡ old.units.items
+  pub refused : new.refused ≡ old.refused
+  pub back : Begins old.back.items new.back.items
+  pub totals : KeepsTotals (held_by nodes ++ hauled old) (hauled new)
+
+-- nodes with data are kept as they are; others were given up
+abbrev pub Settles : List (Segment NoOwner) → List (Segment NoOwner) → Haul → Haul → Type 0
+Settles nodes kept old new =
+    ((kept ≡ nodes) × (0 < length (bytes_of nodes)) × (new ≡ old))
+    ⊎ ((kept ≡ []) × (bytes_of nodes ≡ []) × GivesUp nodes old new)

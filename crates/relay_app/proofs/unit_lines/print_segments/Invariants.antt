@@ -1,8 +1,0 @@
-use Rattle.std.proofs.Common.{take}
-use Rattle.hex.specs.Hex.{encode_lower}
-use Rattle.plain_chain.specs.Segments.{bytes_of}
-use Rattle.buffered_io.specs.Writing.{PrintsTo, outlet}
-use Rattle.relay_app.proofs.unit_lines.print_segments.Given as goal
-
-abbrev pub invariant-segments : goal.invariant-segments
-invariant-segments g l = PrintsTo (encode_lower (bytes_of (take l.i l.frame))) (outlet l.fn.printer (g.W.Sink.state l.fn.sink)) (outlet l.printer (g.W.Sink.state l.sink))
