@@ -5,7 +5,7 @@ use Rattle.buffer_model.specs.Share.{Share, own, rest_of, part_of, IsOfStorage}
 use Rattle.buffer_model.specs.Segment.{Segment, shared_as}
 use Rattle.buffer_model.specs.Stake.{held, KeepsTotalsBelow}
 use Rattle.buffer_model.specs.Minted.{Numbers, Adds}
-use Rattle.buffer_model.specs.Clones.{Splits, Renews, Clones}
+use Rattle.buffer_model.specs.Clones.{Splits, Renews, Clones, SharesPart}
 use Rattle.buffer_model.proofs.Totals.{keeps_same, keeps_below, keeps_wrapped_in, keeps_beside_last, share_keeps}
 
 module _ {O : Type 0} where
@@ -55,3 +55,11 @@ module _ {O : Type 0} where
   -- where there is weight to share, a clone's receipt may be absorbed by what stayed
   pub clone_on_storage : (old new : Numbers) (s t c : Segment O) (r : Tally) → Clones old new s t c → 2 ≤ s.share.weight → IsOfStorage c.share r → IsOfStorage t.share r
   clone_on_storage old new s t c r is two of = by_shares old new s.share t.share c.share r two of is.shares
+
+  -- a share of a part is a clone, and leaves the mint as it is
+  pub part_clones : (m : Numbers) (before after clone : Segment O) → SharesPart before after clone → Clones m m before after clone
+  part_clones m before after clone shared = record {
+    lists = shared.lists;
+    clone_lists = shared.clone_lists;
+    shares = inl (refl, inr (shared.enough, shared.rest, shared.part));
+  }

@@ -26,6 +26,14 @@ module _ {O : Type 0} where
     pub clone_lists : clone ≡ shared_as clone.share before
     pub shares : SplitsOrRenews old new before.share after.share clone.share
 
+  -- a window before and after a part of its weight was given to a clone, and the clone: all have the same three lists
+  pub record SharesPart (before after clone : Segment O) : Type 0 where
+    pub lists : after ≡ shared_as after.share before
+    pub clone_lists : clone ≡ shared_as clone.share before
+    pub enough : 2 ≤ before.share.weight
+    pub rest : after.share ≡ rest_of before.share
+    pub part : clone.share ≡ part_of before.share
+
   -- a window before and after a look that found its storage shared. The three lists stay
   abbrev pub StaysShared : Segment O → Segment O → Type 0
   StaysShared before after = (after ≡ shared_as after.share before) × FindsShared before.share after.share

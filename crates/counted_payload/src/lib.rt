@@ -169,6 +169,7 @@ impl<T, A: Allocator> Loan<T, A> {
     }
 
     /// The payload. O(1).
+    #[inline(always)]
     pub fn get(&self) -> &T
         ensures { result.now ≡ self.now.value }
     {
@@ -176,6 +177,7 @@ impl<T, A: Allocator> Loan<T, A> {
     }
 
     /// Cuts parts off. O(1).
+    #[inline(always)]
     pub fn split(&mut self, _k: u64) -> Loan<T, A>
         requires { (0 < _k) × (_k < self.old.count) × (self.old.count ≤ 2 ^ 62) }
         ensures { IsSplit self.old self.new _k result }
@@ -188,6 +190,7 @@ impl<T, A: Allocator> Loan<T, A> {
     }
 
     /// Lowers the word by the seat's weight k, and gives k parts back in the same step.
+    #[inline(always)]
     pub fn leave(self, shared: &Word, seat: &mut Seat<(), Entry>, k: u64) -> (u64, Returned<T, A>)
         requires { MayLeave seat.old shared.now.table_id self k }
         ensures { HasLeft seat.old seat.new self k result }

@@ -5,7 +5,7 @@ use Rattle.std.specs.List.{AllZip}
 use Rattle.share_count.specs.Weights.{full}
 use Rattle.buffer_model.specs.Segment.{Segment, trimmed_start, trimmed_end, between_rooms, shared_as}
 use Rattle.buffer_model.specs.Minted.{Numbers, Adds, IsNew}
-use Rattle.buffer_model.specs.Clones.{Clones}
+use Rattle.buffer_model.specs.Clones.{Clones, SharesPart}
 
 module _ {O : Type 0} where
   -- each node is cloned, in order: the mint, the nodes before and after, and the clones
@@ -163,4 +163,24 @@ module _ {O : Type 0} where
     pub before_is : before ≡ node ∷ behind
     pub clones : Clones old new node left clone
     pub front_is : front ≡ trimmed_end (length node.window - k) clone ∷ []
+    pub after_is : after ≡ trimmed_start k left ∷ behind
+
+  -- nodes before a part of the first one's weight was shared, and afterwards, and the share
+  pub record SharesFirst (before after : List (Segment O)) (clone : Segment O) : Type 0 where
+    pub node : Segment O
+    pub behind : List (Segment O)
+    pub left : Segment O
+    pub before_is : before ≡ node ∷ behind
+    pub shares : SharesPart node left clone
+    pub after_is : after ≡ left ∷ behind
+
+  -- a chain before its first k bytes left, a share of them without the first `front` and the last `back`, and the chain afterwards: the share is of the first node, which stays with its other bytes
+  pub record SharesFront (k front back : ℕ) (before frame after : List (Segment O)) : Type 0 where
+    pub node : Segment O
+    pub behind : List (Segment O)
+    pub left : Segment O
+    pub clone : Segment O
+    pub before_is : before ≡ node ∷ behind
+    pub shares : SharesPart node left clone
+    pub frame_is : frame ≡ trimmed_start front (trimmed_end back (trimmed_end (length node.window - k) clone)) ∷ []
     pub after_is : after ≡ trimmed_start k left ∷ behind

@@ -40,6 +40,7 @@ pub type Frame = Chain<'static>;
 
 impl<'a, O: Told> Chain<'a, O> {
     /// A chain of one node. O(1), and it takes no memory: so it always succeeds.
+    #[inline(always)]
     pub fn of(alloc: Global, node: IoBuf<'a, O>) -> Result<Chain<'a, O>, IoBuf<'a, O>>
         ensures { result ≡ Ok (node.entry ∷ []) }
     {
@@ -52,6 +53,7 @@ impl<'a, O: Told> Chain<'a, O> {
     }
 
     /// The number of nodes, at least one. O(1).
+    #[inline(always)]
     pub fn elements(&self) -> usize
         ensures count { result ≡ length self.now }
         ensures some { 0 < result }
@@ -60,6 +62,7 @@ impl<'a, O: Told> Chain<'a, O> {
     }
 
     /// The number of bytes of data. O(1).
+    #[inline(always)]
     pub fn length(&self) -> usize
         ensures { result ≡ length (bytes_of self.now) }
     {
@@ -67,6 +70,7 @@ impl<'a, O: Told> Chain<'a, O> {
     }
 
     /// Node `i`. O(1).
+    #[inline(always)]
     pub fn node(&self, i: usize) -> &IoBuf<'a, O>
         requires { i < length self.now }
         ensures { slice_get self.now i ≡ Some result.now }
@@ -96,6 +100,26 @@ impl<'a, O: Told> Chain<'a, O> {
     {
         self.nodes.rotate(i);
     }
+}
+
+impl<'a, O: Told> Chain<'a, O> {
+    /// Drops the chain, as going out of scope does: each node gives its storage back, and the receipts are lost. Faster for a chain of one node, since it is taken apart where it lies.
+    #[inline(always)]
+    pub fn discard(self) {
+        let Chain { nodes, room, .. } = self;
+        let (first, rest) = nodes.into_parts();
+        drop(first);
+        if rest.capacity() > 0 || room.capacity() > 0 {
+            discard_rest(rest, room);
+        }
+    }
+}
+
+// Drops the other nodes, and the room for what they hand back.
+#[inline(never)]
+fn discard_rest<'a, O: Told>(rest: VecDeque<IoBuf<'a, O>>, room: VecDeque<Back<O>>) {
+    drop(rest);
+    drop(room);
 }
 
 impl<'a, O: Told> fmt::Debug for Chain<'a, O> {

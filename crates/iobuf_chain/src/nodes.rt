@@ -1,10 +1,10 @@
 //! Lists of one or more items, of which the first lies in the list itself: a list of one owns no memory.
-ghost use Rattle.std.specs.Prelude.{◌≡◌, ◌+◌, ◌<◌, ◌≤◌, List, [], ◌∷◌, ◌++◌, Some, length, take, drop, slice_get, slice_set, IsOk, IfOk, OnOk, OnErr, MatchResult};
+ghost use Rattle.std.specs.Prelude.{◌≡◌, ◌+◌, ◌<◌, ◌≤◌, List, [], ◌∷◌, ◌++◌, Some, length, take, drop, slice_get, slice_set, ◌↔◌, IsNone, IfNone, IsOk, IfOk, OnOk, OnErr, MatchResult};
 ghost use Rattle.std.specs.VecDeque.{deque_len, deque_capacity};
 ghost use Rattle.std.specs.Prelude.{IfSome};
 ghost use Rattle.buffer_model.specs.Segment.{trimmed_start, trimmed_end};
 ghost use Rattle.iobuf_chain.specs.Lists.{between, without, rotated, inserted_after, TurnsAt};
-ghost use Rattle.iobuf_chain.specs.Shares.{ClonesAt};
+ghost use Rattle.iobuf_chain.specs.Shares.{ClonesAt, SharesFirst};
 
 use iobuf_node::IoBuf;
 use share_count::Mint;
@@ -31,6 +31,7 @@ impl<T> Model for Nodes<T> {
 
 impl<T: Drop> Nodes<T> {
     // One item.
+    #[inline(always)]
     pub(crate) fn of(alloc: Global, item: T) -> Nodes<T>
         ensures { result ≡ item ∷ [] }
     {
@@ -46,6 +47,7 @@ impl<T: Drop> Nodes<T> {
     }
 
     // The first item, and the others.
+    #[inline(always)]
     pub(crate) fn into_parts(self) -> (T, VecDeque<T>)
         ensures { result.0 ∷ result.1.items ≡ self }
     {
@@ -60,6 +62,7 @@ impl<T: Drop> Nodes<T> {
     }
 
     // How many items there are.
+    #[inline(always)]
     pub(crate) fn len(&self) -> usize
         ensures count { result ≡ length self.now }
         ensures some { 0 < result }
@@ -68,6 +71,7 @@ impl<T: Drop> Nodes<T> {
     }
 
     // Item i.
+    #[inline(always)]
     pub(crate) fn get(&self, i: usize) -> &T
         requires { i < length self.now }
         ensures { slice_get self.now i ≡ Some result.now }
@@ -214,7 +218,19 @@ impl<'a, O: Told> Nodes<IoBuf<'a, O>> {
         }
     }
 
+    // A share of the first node, where it has the weight for one.
+    #[inline(always)]
+    pub(crate) fn share_first(&mut self) -> Result<Option<IoBuf<'a, O>>, AllocError>
+        ensures none { IfOk result (λ o. IsNone o ↔ IfSome (slice_get self.old 0) (λ s. s.share.weight < 2)) }
+        ensures stays { IfOk result (λ o. IfNone o (self.new ≡ self.old)) }
+        ensures share { IfOk result (λ o. IfSome o (SharesFirst self.old self.new)) }
+        ensures refused { OnErr result (self.new ≡ self.old) }
+    {
+        self.first.share_one()
+    }
+
     // The first k bytes of the first node leave.
+    #[inline(always)]
     pub(crate) fn trim_first_start(&mut self, k: usize)
         requires { IfSome (slice_get self.old 0) (λ s. k ≤ length s.window) }
         ensures { TurnsAt (trimmed_start k) 0 self.old self.new }

@@ -1,10 +1,10 @@
 //! Parts that leave a chain.
-ghost use Rattle.std.specs.Prelude.{◌≡◌, ◌+◌, ◌≤◌, ◌<◌, ◌^◌, List, [], ◌∷◌, ◌++◌, IsOk, IfOk, IfSome, OnOk, OnErr, length, take, drop, slice_get, MatchResult};
+ghost use Rattle.std.specs.Prelude.{◌≡◌, ◌+◌, ◌≤◌, ◌<◌, ◌^◌, ◌↔◌, List, [], ◌∷◌, ◌++◌, IsNone, IfNone, IsOk, IfOk, IfSome, OnOk, OnErr, length, take, drop, slice_get, MatchResult};
 ghost use Rattle.buffer_model.specs.Segment.{bytes_of};
 ghost use Rattle.buffer_model.specs.Stake.{KeepsTotals, KeepsTotalsBelow};
 ghost use Rattle.iobuf_chain.specs.Accounts.{held_by, answered, cut_off};
 ghost use Rattle.iobuf_chain.specs.Lists.{between, without};
-ghost use Rattle.iobuf_chain.specs.Shares.{CutsFirst};
+ghost use Rattle.iobuf_chain.specs.Shares.{CutsFirst, SharesFront};
 
 use crate::chain::Chain;
 use crate::nodes::Nodes;
@@ -103,6 +103,41 @@ impl<'a, O: Told> Chain<'a, O> {
             room: VecDeque::new(alloc),
             sum: k,
         })
+    }
+}
+
+impl<'a, O: Told> Chain<'a, O> {
+    /// The first `k` bytes of the first node, which has more, leave in a share of it as a chain of their own, without their first `edges.0` and their last `edges.1`. The node itself stays behind with its other bytes. `None` exactly where the node has a weight below 2, as a wrapped one has: then nothing changes. O(1). It takes no memory and copies no byte: the count of a shared pointer grows by one, and where that is refused nothing changes.
+    #[inline(always)]
+    pub fn share_front(
+        &mut self,
+        alloc: Global,
+        k: usize,
+        edges: (usize, usize),
+    ) -> Result<Option<Chain<'a, O>>, AllocError>
+        requires more { IfSome (slice_get self.old 0) (λ s. k < length s.window) }
+        requires edges { edges.0 + edges.1 ≤ k }
+        ensures none { IfOk result (λ o. IsNone o ↔ IfSome (slice_get self.old 0) (λ s. s.share.weight < 2)) }
+        ensures stays { IfOk result (λ o. IfNone o (self.new ≡ self.old)) }
+        ensures cut { IfOk result (λ o. IfSome o (λ frame. SharesFront k edges.0 edges.1 self.old frame self.new)) }
+        ensures refused { OnErr result (self.new ≡ self.old) }
+    {
+        let all = self.sum;
+        let len = self.nodes.get(0).length();
+        let Some(mut share) = self.nodes.share_first()? else {
+            return Ok(None);
+        };
+        let (front, back) = edges;
+        share.trim_end(len - k);
+        share.trim_end(back);
+        share.trim_start(front);
+        self.nodes.trim_first_start(k);
+        self.sum = all - k;
+        Ok(Some(Chain {
+            nodes: Nodes::of(alloc, share),
+            room: VecDeque::new(alloc),
+            sum: k - back - front,
+        }))
     }
 }
 

@@ -1,5 +1,6 @@
 mod ends;
 mod example;
+mod fronts;
 mod moves;
 mod ranges;
 mod receipts;

@@ -1,7 +1,7 @@
 //! Copies and clones of nodes.
-ghost use Rattle.std.specs.Prelude.{◌≡◌, ◌+◌, ◌≤◌, List, [], ◌∷◌, length, None, Ok, IsOk, IfOk, IfErr, OnErr, OnOk, MatchOption, MatchResult};
+ghost use Rattle.std.specs.Prelude.{◌≡◌, ◌+◌, ◌≤◌, ◌<◌, ◌↔◌, List, [], ◌∷◌, length, None, Ok, IsOk, IsNone, IfNone, IfOk, IfErr, IfSome, OnErr, OnOk, MatchOption, MatchResult};
 ghost use Rattle.buffer_model.specs.Share.{IsManaged};
-ghost use Rattle.buffer_model.specs.Clones.{Clones, MovesOut};
+ghost use Rattle.buffer_model.specs.Clones.{Clones, MovesOut, SharesPart};
 ghost use Rattle.buffer_model.specs.Stake.{held};
 ghost use Rattle.iobuf_node.specs.Answered.{cloned, either_way, KeepsFor};
 
@@ -23,6 +23,24 @@ impl<'a, O: Told> IoBuf<'a, O> {
         match self.again() {
             Some(node) => Ok(node),
             None => self.clone_managed(alloc, mint),
+        }
+    }
+
+    /// A second node with the same three lists on the same storage, which has a part of the weight. `None` exactly at a weight below 2, which a wrapped node has too. It takes no memory and copies no byte: the count of a shared pointer grows by one, and where that is refused the node is as it was. O(1).
+    #[inline(always)]
+    pub fn share_one(&mut self) -> Result<Option<IoBuf<'a, O>>, AllocError>
+        ensures none { IfOk result (λ o. IsNone o ↔ (self.old.share.weight < 2)) }
+        ensures stays { IfOk result (λ o. IfNone o (self.new ≡ self.old)) }
+        ensures share { IfOk result (λ o. IfSome o (SharesPart self.old self.new)) }
+        ensures refused { OnErr result (self.new ≡ self.old) }
+    {
+        if self.weight() < 2 {
+            return Ok(None);
+        }
+        match self.window.hold.share() {
+            Ok(Some(hold)) => Ok(Some(on(hold, self.window.start, self.window.len))),
+            Ok(None) => unreachable!(),
+            Err(e) => Err(e),
         }
     }
 
@@ -93,6 +111,7 @@ impl<'a, O: Told> IoBuf<'a, O> {
     }
 
     /// A second node with the same three lists, on a copy of the whole block on a new storage. One copy. Four allocations: the block, and three for its count.
+    #[inline(never)]
     pub fn duplicate(&self, alloc: Global, mint: &mut Mint) -> Result<IoBuf<'static, O>, AllocError>
         ensures node { IfOk result (MovesOut mint.old mint.new self.now) }
         ensures refused { OnErr result (mint.new ≡ mint.old) }

@@ -115,6 +115,7 @@ impl<O: Told> IoBuf<'static, O> {
 }
 
 // A node on a managed hold.
+#[inline(always)]
 pub(crate) fn on<O: Told>(hold: Managed<O>, start: usize, len: usize) -> IoBuf<'static, O>
     ensures { result ≡ cut hold.bytes start len hold.share }
 {

@@ -48,6 +48,7 @@ impl<'a, O: Told> IoBuf<'a, O> {
     }
 
     /// All bytes of the block: both rooms, with the data between them.
+    #[inline(always)]
     pub fn block(&self) -> &[u8]
         ensures { result.now ≡ block_of self.now }
     {
@@ -58,6 +59,7 @@ impl<'a, O: Told> IoBuf<'a, O> {
     }
 
     /// The data.
+    #[inline(always)]
     pub fn bytes(&self) -> &[u8]
         ensures { result.now ≡ self.now.window }
     {
@@ -67,6 +69,7 @@ impl<'a, O: Told> IoBuf<'a, O> {
     }
 
     /// How many bytes of data there are.
+    #[inline(always)]
     pub fn length(&self) -> usize
         ensures { result ≡ length self.now.window }
     {
@@ -75,6 +78,7 @@ impl<'a, O: Told> IoBuf<'a, O> {
     }
 
     /// How many bytes lie before the data.
+    #[inline(always)]
     pub fn headroom(&self) -> usize
         ensures value { result ≡ length self.now.before }
         ensures fits { size self.now < 2 ^ 64 }
@@ -83,6 +87,7 @@ impl<'a, O: Told> IoBuf<'a, O> {
     }
 
     /// How many bytes lie after the data.
+    #[inline(always)]
     pub fn tailroom(&self) -> usize
         ensures { result ≡ length self.now.after }
     {
@@ -97,6 +102,7 @@ impl<'a, O: Told> IoBuf<'a, O> {
     }
 
     /// The number of the storage. A wrapped node has none.
+    #[inline(always)]
     pub fn number(&self) -> Option<u64>
         ensures number { result ≡ self.now.share.number }
         ensures share { IsShare self.now.share }
@@ -108,6 +114,7 @@ impl<'a, O: Told> IoBuf<'a, O> {
     }
 
     /// The node's own weight, of 2^62 in all, and 0 for a wrapped node.
+    #[inline(always)]
     pub fn weight(&self) -> u64
         ensures weight { result ≡ self.now.share.weight }
         ensures share { IsShare self.now.share }
@@ -127,6 +134,7 @@ impl<'a, O: Told> IoBuf<'a, O> {
     }
 
     /// Leaves the first `n` bytes of the data to the room before it. O(1), and no memory.
+    #[inline(always)]
     pub fn trim_start(&mut self, n: usize)
         requires { n ≤ length self.old.window }
         ensures window { self.new ≡ trimmed_start n self.old }
@@ -140,6 +148,7 @@ impl<'a, O: Told> IoBuf<'a, O> {
     }
 
     /// Leaves the last `n` bytes of the data to the room after it. O(1), and no memory.
+    #[inline(always)]
     pub fn trim_end(&mut self, n: usize)
         requires { n ≤ length self.old.window }
         ensures window { self.new ≡ trimmed_end n self.old }

@@ -17,12 +17,14 @@ pub(crate) enum Home<P> {
 impl<P: Drop> Home<P> {
     ghost use Rattle.share_count.specs.HomeLends.{lends_own, lends_own_if};
 
+    #[inline(always)]
     pub(crate) fn is_own(&self) -> bool
         ensures { result ≡ is_own self.now }
     {
         matches!(self, Home::Own(_))
     }
 
+    #[inline(always)]
     pub(crate) fn get(&self) -> &P
         requires { ¬ (IsMoving self.now) }
         ensures { result.now ≡ payload_in self.now }
@@ -78,12 +80,13 @@ impl<P: Drop> Home<P> {
     }
 
     // Cuts parts off the loan.
-    pub(crate) fn split(&mut self, parts: u64) -> Home<P>
+    #[inline(always)]
+    pub(crate) fn split(&mut self, parts: u64) -> Loan<P, Global>
         requires { IsLentOver parts self.old }
-        ensures { Splits parts self.old self.new result }
+        ensures { Splits parts self.old self.new (Home.Lent result) }
     {
         match self {
-            Home::Lent(loan) => Home::Lent(loan.split(parts)),
+            Home::Lent(loan) => loan.split(parts),
             _ => unreachable!(),
         }
     }

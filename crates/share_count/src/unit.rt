@@ -5,6 +5,7 @@ ghost use Rattle.std.specs.Borrow.{sem};
 ghost use Rattle.share_count.specs.Weights.{full, part};
 ghost use Rattle.share_count.specs.Held.{owned, IsWhole, looked, claimed, sharer, share_of};
 ghost use Rattle.share_count.specs.Answers.{IsStanding, IsFound, GivesBack};
+ghost use Rattle.share_count.specs.Seats.{SeatsUnit, seen};
 
 use crate::given::Given;
 use crate::home::{Home, settled};
@@ -80,6 +81,7 @@ impl<P: Drop> Unit<P> {
     ghost use Rattle.share_count.specs.Lending.{lends_payload, lends_alone};
 
     /// The number of the storage.
+    #[inline(always)]
     pub fn number(&self) -> u64
         ensures { result ≡ self.now.number }
     {
@@ -87,6 +89,7 @@ impl<P: Drop> Unit<P> {
     }
 
     /// The live weight, of 2^62 in all.
+    #[inline(always)]
     pub fn weight(&self) -> u64
         ensures weight { result ≡ self.now.weight }
         ensures least { 1 ≤ self.now.weight }
@@ -103,6 +106,7 @@ impl<P: Drop> Unit<P> {
     }
 
     /// Whether it has all weight of its storage. No step on the word.
+    #[inline(always)]
     pub fn whole(&self) -> bool
         ensures { IsTrue result ↔ IsWhole self.now }
     {
@@ -117,6 +121,7 @@ impl<P: Drop> Unit<P> {
     }
 
     /// The payload for reading. O(1), no step on the word.
+    #[inline(always)]
     pub fn get(&self) -> &P
         ensures { result.now ≡ self.now.payload }
     {
@@ -124,6 +129,7 @@ impl<P: Drop> Unit<P> {
     }
 
     /// A unit of a part of the weight: a thousandth or so, at most 2^40, at least 1. `None` exactly at weight 1. No allocation: the count of a shared pointer grows by one, and where that is refused the unit is as it was. O(1).
+    #[inline(always)]
     pub fn share(&mut self) -> Result<Option<Unit<P>>, AllocError>
         ensures none { IfOk result (λ o. MatchOption o (self.old.weight ≡ 1) (λ _. 2 ≤ self.old.weight)) }
         ensures stays { IfOk result (λ o. MatchOption o (self.new ≡ self.old) (λ _. self.new ≡ sharer self.old)) }
@@ -134,7 +140,9 @@ impl<P: Drop> Unit<P> {
             return Ok(None);
         }
         let word = Arc::try_clone(&self.word)?;
-        self.lend();
+        if self.home.is_own() {
+            self.lend();
+        }
         Ok(Some(self.cut(word)))
     }
 
@@ -240,6 +248,7 @@ impl<P: Drop> Unit<P> {
     }
 
     // Lends the payload in as many parts as the unit has weight, where it is its own.
+    #[inline(never)]
     fn lend(&mut self)
         ensures { self.new ≡ record self.old { alone = false } }
     {
@@ -261,6 +270,7 @@ impl<P: Drop> Unit<P> {
     }
 
     // Cuts a share off the lent payload.
+    #[inline(always)]
     fn cut(&mut self, word: Arc<Word, Global>) -> Unit<P>
         requires more { 2 ≤ self.old.weight }
         requires lent { IsFalse self.old.alone }
@@ -270,20 +280,13 @@ impl<P: Drop> Unit<P> {
     {
         let weight = (self.weight / 1024).min(1 << 40).max(1);
         let seat = self.word.shared.split_seat::<Cut>(&mut self.seat);
-        let home = self.home.split(weight);
+        let loan = self.home.split(weight);
         self.weight -= weight;
-        Unit {
-            word,
-            seat,
-            home,
-            alloc: self.alloc,
-            number: self.number,
-            weight,
-            absorbed: 0,
-        }
+        share_on(word, seat, loan, self.alloc, self.number, weight)
     }
 
     // The claim of a unit whose payload is lent.
+    #[inline(never)]
     fn take_home(&mut self) -> Result<(), u64>
         requires { IsFalse self.old.alone }
         ensures claimed { self.new ≡ claimed self.old self.new.note }
@@ -299,6 +302,31 @@ impl<P: Drop> Unit<P> {
         } else {
             Err(found)
         }
+    }
+}
+
+// A share on parts that were cut off. It is made in a function of its own, behind the step on the word, so that the
+// compiler builds it where it goes.
+#[inline(always)]
+fn share_on<P: Drop>(
+    word: Arc<Word, Global>,
+    seat: Seat<(), Entry>,
+    loan: Loan<P, Global>,
+    alloc: Global,
+    number: u64,
+    weight: u64,
+) -> Unit<P>
+    requires { SeatsUnit seat (arc_value word).shared.table_id weight 0 alloc (Home.Lent loan) }
+    ensures { result ≡ seen seat number weight 0 (Home.Lent loan) }
+{
+    Unit {
+        word,
+        seat,
+        home: Home::Lent(loan),
+        alloc,
+        number,
+        weight,
+        absorbed: 0,
     }
 }
 

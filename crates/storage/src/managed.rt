@@ -38,6 +38,7 @@ impl<O: Told> Managed<O> {
     ghost use Rattle.storage.specs.ManagedLends.{lends_block, lends_bytes, lends_span};
 
     /// A hold on no storage, with no bytes. O(1), and no memory.
+    #[inline(always)]
     pub fn none() -> Managed<O>
         ensures { result ≡ record { bytes = []; share = wrapped } }
     {
@@ -45,6 +46,7 @@ impl<O: Told> Managed<O> {
     }
 
     /// The number of the storage. It has none where there is no storage.
+    #[inline(always)]
     pub fn number(&self) -> Option<u64>
         ensures number { result ≡ self.now.share.number }
         ensures none { self.now.share.number ≡ None → self.now ≡ record { bytes = []; share = wrapped } }
@@ -60,6 +62,7 @@ impl<O: Told> Managed<O> {
     }
 
     /// The hold's own weight, of 2^62 in all, and 0 where there is no storage.
+    #[inline(always)]
     pub fn weight(&self) -> u64
         ensures weight { result ≡ self.now.share.weight }
         ensures share { IsShare self.now.share }
@@ -71,6 +74,7 @@ impl<O: Told> Managed<O> {
     }
 
     /// Whether the hold has all weight of its storage. Takes no look at the count.
+    #[inline(always)]
     pub fn whole(&self) -> bool
         ensures whole { IsTrue result ↔ IsWhole self.now.share }
         ensures share { IsShare self.now.share }
@@ -114,6 +118,7 @@ impl<O: Told> Managed<O> {
     }
 
     /// The bytes of the block.
+    #[inline(always)]
     pub fn bytes(&self) -> &[u8]
         ensures { result.now ≡ self.now.bytes }
     {
@@ -162,6 +167,7 @@ impl<O: Told> Managed<O> {
     }
 
     /// A second hold on the storage, with a part of the weight: `max(1, min(w / 1024, 2^40))` of the weight w. `Ok(None)` exactly at weight 1. Without a storage the second has none either, and no memory is taken.
+    #[inline(always)]
     pub fn share(&mut self) -> Result<Option<Managed<O>>, AllocError>
         ensures shares { IfOk result (SharesAs self.old self.new) }
         ensures none { self.old.share.number ≡ None → IsOk result }

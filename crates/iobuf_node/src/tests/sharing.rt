@@ -77,6 +77,21 @@ fn clones_share_the_storage(rt: HostRuntime) -> Result<(), Fail> {
     Ok(())
 }
 
+#[test]
+fn shares_one_where_there_is_weight(rt: HostRuntime) -> Result<(), Fail> {
+    let alloc = rt.alloc();
+    let mut first: IoBuf = IoBuf::copy(alloc, b"ab", 1, 2, &mut Mint::new())?;
+    let Ok(Some(share)) = first.share_one() else {
+        return Err(Fail::from(Unexpected));
+    };
+    assert!(rt; share.weight() == 1 << 40 && shows(&share, 1, b"ab", 2));
+    assert!(rt; share.number() == Some(0) && shows(&first, 1, b"ab", 2));
+
+    let mut wrap: IoBuf<'_> = IoBuf::wrap(b"xyz");
+    assert!(rt; matches!(wrap.share_one(), Ok(None)) && shows(&wrap, 0, b"xyz", 0));
+    Ok(())
+}
+
 // Clones a node that has weight to share, and takes the clone's weight back. Whether there was a receipt.
 fn cloned_and_absorbed<O: Release>(
     node: &mut IoBuf<'static, O>,
