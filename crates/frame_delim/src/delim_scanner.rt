@@ -49,7 +49,7 @@ impl Scanner for DelimScanner {
     fn scan(&mut self, have: usize, bytes: &[u8]) -> Scan {
         match find_ending(&self.list, self.tail.bytes(), bytes) {
             Some(ending) => {
-                self.tail = Tail::new();
+                self.tail.clear();
                 scan_at(self.strip, self.max, have, ending)
             }
             None => {

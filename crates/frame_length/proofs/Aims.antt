@@ -15,7 +15,7 @@ use Rattle.frame_rule.specs.Scanning.{Scanned, inner}
 use Rattle.frame_length.specs.declared.length_scanner.Header.{Header}
 use Rattle.frame_length.specs.declared.length_scanner.Aim.{Aim}
 use Rattle.frame_length.specs.declared.length_scanner.Aim.TheVariants.{Short, Wrong, At}
-use Rattle.frame_length.specs.Fields.{Aims, AimsBehind, Looked, Saw, codec_by, field_end, said, scan_toward, target_behind}
+use Rattle.frame_length.specs.Fields.{Aims, AimsBehind, AimsBy, Looked, Saw, codec_by, field_end, said, scan_toward, target_behind}
 
 there_if : (x : Bool) (m : Head) → x ≡ false → (if x then More else m) ≡ m
 there_if x m e = rw e refl
@@ -172,7 +172,7 @@ looked_by h seen r s w behind (At t) joined there all is aims =
 to_field : (h : Header) (r s : List ℕ) → length r < field_end h → field_end h ≤ length r + length s → length (r ++ take (field_end h - length r) s) ≡ field_end h
 to_field h r s still there = omega (arith, length-append r (take (field_end h - length r) s), length-take-le (field_end h - length r) s (omega arith))
 
-pub looked_sized : (h : Header) (seen r s : List ℕ) (behind : ℕ) (a : Aim) → length r < field_end h → field_end h ≤ length r + length s
+looked_sized : (h : Header) (seen r s : List ℕ) (behind : ℕ) (a : Aim) → length r < field_end h → field_end h ≤ length r + length s
     → take (length (r ++ take (field_end h - length r) s) - h.offset) seen ≡ drop h.offset (r ++ take (field_end h - length r) s)
     → adjusted (number_in_order h.little (take h.field seen)) h.adjust ≡ Some behind
     → AimsBehind h.strip h.max (field_end h) behind a → Looked h seen r s a
@@ -182,7 +182,7 @@ looked_sized h seen r s behind a still there kept is aims =
     looked_by h seen r s w behind a refl there (omega (arith, size))
     (ap (λ v. adjusted (number_in_order h.little v) h.adjust) (sym (said_kept h w seen size kept)) ∙ is) aims
 
-pub looked_small : (h : Header) (seen r s : List ℕ) → length r < field_end h → field_end h ≤ length r + length s
+looked_small : (h : Header) (seen r s : List ℕ) → length r < field_end h → field_end h ≤ length r + length s
     → take (length (r ++ take (field_end h - length r) s) - h.offset) seen ≡ drop h.offset (r ++ take (field_end h - length r) s)
     → adjusted (number_in_order h.little (take h.field seen)) h.adjust ≡ None
     → Looked h seen r s (Wrong TooSmall 0)
@@ -194,6 +194,45 @@ looked_small h seen r s still there kept is =
       head_said h w None (omega (arith, size))
           (ap (λ v. adjusted (number_in_order h.little v) h.adjust) (sym (said_kept h w seen size kept)) ∙ is) ∙ ap (λ n. Bad TooSmall n) none,
     )
+
+-- what is told by bytes that begin with those of the field
+told_by : (h : Header) (seen r s : List ℕ) (said : Option ℕ) (a : Aim) → length r < field_end h → field_end h ≤ length r + length s
+    → take (length (r ++ take (field_end h - length r) s) - h.offset) seen ≡ drop h.offset (r ++ take (field_end h - length r) s)
+    → adjusted (number_in_order h.little (take h.field seen)) h.adjust ≡ said → AimsBy h said a → Looked h seen r s a
+told_by h seen r s None a still there kept is aims =
+    let P : Aim → Type 0 = λ b. Looked h seen r s b in
+    subst P (sym aims) (looked_small h seen r s still there kept is)
+told_by h seen r s (Some behind) a still there kept is aims = looked_sized h seen r s behind a still there kept is aims
+
+pub looked_kept : (h : Header) (seen r s : List ℕ) (value : ℕ) (a : Aim) → length r < field_end h → field_end h ≤ length r + length s
+    → take (length (r ++ take (field_end h - length r) s) - h.offset) seen ≡ drop h.offset (r ++ take (field_end h - length r) s)
+    → value ≡ number_in_order h.little (take h.field seen) → AimsBy h (adjusted value h.adjust) a → Looked h seen r s a
+looked_kept h seen r s value a still there kept is aims =
+    told_by h seen r s (adjusted value h.adjust) a still there kept (ap (λ v. adjusted v h.adjust) (sym is)) aims
+
+-- once the field is there, it doesn't matter what was kept of it
+looked_any : (h : Header) (seen other r s : List ℕ) (a : Aim) → field_end h ≤ length r + length s → Looked h seen r s a → Looked h other r s a
+looked_any h seen other r s Short there looked = absurd (let e : ⊥ = omega (arith, there, looked.0) in e)
+looked_any h seen other r s (Wrong kind over) there looked = looked
+looked_any h seen other r s (At t) there looked = looked
+
+-- a field that lies whole in the bytes that came
+pub looked_there : (h : Header) (seen r s field : List ℕ) (value : ℕ) (a : Aim) → length r ≤ h.offset → 0 < h.field → field_end h ≤ length r + length s
+    → field ≡ take (field_end h - length r - (h.offset - length r)) (drop (h.offset - length r) s)
+    → value ≡ number_in_order h.little field → AimsBy h (adjusted value h.adjust) a → Looked h seen r s a
+looked_there h seen r s field value a early some there is says aims =
+    let n : ℕ = field_end h - length r in
+    let w : List ℕ = r ++ take n s in
+    let few : length (take n s) ≡ n = length-take-le n s (omega (arith, there)) in
+    let all : h.offset - length r + (n - (h.offset - length r)) ≡ n = omega (arith, early) in
+    let same : field ≡ drop h.offset w =
+    is ∙ sym (drop-take (h.offset - length r) (n - (h.offset - length r)) s) ∙ ap (λ k. drop (h.offset - length r) (take k s)) all
+    ∙ sym (drop_both h.offset r (take n s) ∙ ap (λ v. v ++ drop (h.offset - length r) (take n s)) (drop_of_length-le r early)) in
+    let size : length field ≡ h.field = ap (λ v. length v) same ∙ length-drop h.offset w ∙ (let e : length w - h.offset ≡ h.field = omega (arith, length-append r (take n s), few, early) in e) in
+    let whole : take h.field field ≡ field = take_all h.field field (omega (arith, size)) in
+    looked_any h field seen r s a there (looked_kept h field r s value a (omega (arith, early, some)) there
+    (ap (λ k. take k field) (let e : length w - h.offset ≡ h.field = omega (arith, length-append r (take n s), few, early) in e) ∙ whole ∙ same)
+    (says ∙ ap (λ v. number_in_order h.little v) (sym whole)) aims)
 
 -- the same with the numbers that were computed on the way
 pub kept_by : (h : Header) (r s seen new part : List ℕ) (have n passed before at : ℕ) → length r ≡ have → n ≤ length s → before ≡ h.offset - have → passed ≡ min before n → at ≡ have - h.offset

@@ -2,7 +2,7 @@
 use Rattle.std.specs.Prelude.{◌≡◌, ℕ, ◌+◌, ◌-◌, ◌<◌, ◌≤◌, List, ◌++◌, Option, Some, None, length, take, drop, nat_lt, if◌then◌else◌}
 use Rattle.frame_head.specs.declared.codecs.Codec.{Codec}
 use Rattle.frame_head.specs.declared.codecs.Codec.TheVariants.{Length, Fixed}
-use Rattle.frame_head.specs.declared.codecs.FaultKind.TheVariants.{TooLong, StripOver}
+use Rattle.frame_head.specs.declared.codecs.FaultKind.TheVariants.{TooSmall, TooLong, StripOver}
 use Rattle.frame_head.specs.Numbers.{number_in_order, adjusted}
 use Rattle.frame_head.specs.Heads.{Bad, head}
 use Rattle.frame_rule.specs.declared.scanner.Scan.{Scan}
@@ -63,3 +63,8 @@ AimsBehind strip max e behind (Wrong TooLong over) = (over ≡ behind) × (max <
 AimsBehind strip max e behind (Wrong StripOver over) = (over ≡ behind) × (behind + e ≤ max) × (behind + e < strip)
 AimsBehind strip max e behind (Wrong _ over) = ⊥
 AimsBehind strip max e behind (At t) = (t ≡ behind + e) × (t ≤ max) × (strip ≤ t)
+
+-- what a field tells that says so many bytes behind it, or too few
+abbrev pub AimsBy : Header → Option ℕ → Aim → Type 0
+AimsBy h None a = a ≡ Wrong TooSmall 0
+AimsBy h (Some behind) a = AimsBehind h.strip h.max (field_end h) behind a

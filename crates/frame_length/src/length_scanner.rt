@@ -1,5 +1,6 @@
 ghost use Rattle.std.specs.Prelude.{◌≡◌, ℕ, ◌+◌, ◌-◌, ◌<◌, ◌≤◌, ◌^◌, List, ◌++◌, length, take, drop};
-ghost use Rattle.frame_length.specs.Fields.{AimsBehind, Looked, field_end, scan_toward, target_behind};
+ghost use Rattle.frame_head.specs.Numbers.{adjusted};
+ghost use Rattle.frame_length.specs.Fields.{AimsBehind, AimsBy, Looked, field_end, scan_toward, target_behind};
 
 use crate::numbers::{number_of, with_adjustment};
 use frame_head::{Codec, FaultKind};
@@ -127,7 +128,7 @@ fn toward(target: usize, strip: u32, have: usize, len: usize) -> Scan
     }
 }
 
-// Keeps the bytes of the field, and finds where the frame ends once they are all there.
+// Keeps the bytes of the field where they come in parts, and finds where the frame ends once they are all there.
 fn look(header: Header, seen: &mut [u8; 8], have: usize, bytes: &[u8]) -> Aim
     requires field { (0 < header.field) × (header.field ≤ 8) }
     requires short { have < field_end header }
@@ -137,19 +138,38 @@ fn look(header: Header, seen: &mut [u8; 8], have: usize, bytes: &[u8]) -> Aim
     let start = header.offset as usize;
     let end = start + header.field as usize;
     let wanted = end - have;
+    if have <= start && wanted <= bytes.len() {
+        return aim_by(
+            header,
+            number_of(&bytes[start - have..wanted], header.little),
+        );
+    }
     let n = wanted.min(bytes.len());
     let passed = start.saturating_sub(have).min(n);
     keep(seen, have.saturating_sub(start), &bytes[passed..n]);
     if n < wanted {
         return Aim::Short;
     }
-    let value = number_of(&seen[..header.field as usize], header.little);
+    aim_by(
+        header,
+        number_of(&seen[..header.field as usize], header.little),
+    )
+}
+
+// What a field of this value tells.
+fn aim_by(header: Header, value: u64) -> Aim
+    requires { header.field ≤ 8 }
+    ensures { AimsBy header (adjusted value header.adjust) result }
+{
     match with_adjustment(value, header.adjust) {
         None => Aim::Wrong {
             kind: FaultKind::TooSmall,
             over: 0,
         },
-        Some(behind) => aim_behind(header.strip, header.max, end, behind),
+        Some(behind) => {
+            let end = header.offset as usize + header.field as usize;
+            aim_behind(header.strip, header.max, end, behind)
+        }
     }
 }
 

@@ -3,5 +3,6 @@ pub mod Terminated
 pub mod Steps
 mod Passing
 mod Moving
+mod Sharing
 mod Intakes
 mod Gathered

@@ -96,6 +96,43 @@ pub(crate) fn give_frame(
     ensures shares { WithData IsHeavy chain.old → OnOk result
         (SharesData chain.old chain.new haul.old.units.items haul.new.units.items) }
 {
+    let _nodes = chain.elements();
+    if k == 0 || k >= chain.node(0).length() {
+        return give_cut(chain, alloc, k, edges, at, haul, mint);
+    }
+    haul.units.reserve(1)?;
+    match chain.share_front(alloc, k, edges) {
+        Ok(Some(frame)) => {
+            haul.units
+                .push_reserved(FrameUnit::Frame { at, chain: frame });
+            Ok(())
+        }
+        Ok(None) => give_cut(chain, alloc, k, edges, at, haul, mint),
+        Err(e) => Err(e),
+    }
+}
+
+// The same by a cut of the chain, wherever the bytes lie.
+#[inline(never)]
+fn give_cut(
+    chain: &mut Frame,
+    alloc: Global,
+    k: usize,
+    edges: (usize, usize),
+    at: u64,
+    haul: &mut Haul,
+    mint: &mut Mint,
+) -> Result<(), AllocError>
+    requires there { k ≤ length (bytes_of chain.old) }
+    requires within { edges.0 + edges.1 ≤ k }
+    ensures rest { OnOk result (bytes_of chain.new ≡ drop k (bytes_of chain.old)) }
+    ensures unit { OnOk result (Gives (FrameAt at (inner edges.0 edges.1 (take k (bytes_of chain.old))))
+        haul.old.units.items haul.new.units.items) }
+    ensures refused { OnErr result (haul.new.units.items ≡ haul.old.units.items) }
+    ensures moves { Moves mint.old mint.new chain.old chain.new haul.old haul.new }
+    ensures shares { WithData IsHeavy chain.old → OnOk result
+        (SharesData chain.old chain.new haul.old.units.items haul.new.units.items) }
+{
     haul.units.reserve(1)?;
     let mut frame = cut_front(chain, alloc, k, mint)?;
     let (front, back) = edges;

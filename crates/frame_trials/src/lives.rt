@@ -1,12 +1,15 @@
 ghost use Rattle.std.specs.Prelude.{◌≡◌};
 
 use crate::codecs::{BYTE, by_field};
-use crate::rig::{Rig, decoder, text_of};
+use crate::rig::{Rig, decoder, one_node, text_of};
 use any_scanner::AnyScanner;
 use frame_head::check;
 use frame_length::LengthScanner;
-use frame_rule::{Decoder, Framer};
+use frame_rule::{Decoder, Framer, Haul, feed_all};
+use iobuf_chain::Frame;
+use share_count::Mint;
 use std::alloc::Global;
+use std::collections::VecDeque;
 use std::process::Abort;
 use std::test::Fail;
 
@@ -110,5 +113,28 @@ fn dead_behind_either_end(rt: HostRuntime) -> Result<(), Fail> {
             );
         }
     }
+    Ok(())
+}
+
+#[test]
+fn all_pieces_are_fed_at_once(rt: HostRuntime) -> Result<(), Fail> {
+    let alloc = rt.alloc();
+    let codec = by_field(BYTE);
+    assert!(rt; check(&codec).is_ok());
+    let mut decoder = Framer::<LengthScanner>::new(codec);
+    let mut haul = Haul::new(alloc);
+    let mut mint = Mint::new();
+    let first = one_node(alloc, b"\x02a", &mut mint)?;
+    let second = one_node(alloc, b"b\x01c\x05d", &mut mint)?;
+    if first.length() > 100 || second.length() > 100 {
+        return Err(Fail::from("too long for a trial"));
+    }
+    let mut pieces: VecDeque<Frame> = VecDeque::with_capacity(alloc, 2)?;
+    pieces.push_back_reserved(first);
+    pieces.push_back_reserved(second);
+    let fed = feed_all(alloc, &mut decoder, pieces, &mut haul, &mut mint);
+    assert!(rt; fed.is_ok());
+    let text = text_of(alloc, &haul.units)?;
+    assert_eq!(rt; text.as_str(), "F 0 6162,F 3 63,X 5 Cut,");
     Ok(())
 }

@@ -1,24 +1,38 @@
-use Rattle.std.proofs.Common.{refl, ap, ◌∙◌, ◌++◌, ◌∷◌, [], ◌≡◌}
-use Rattle.iobuf_chain.specs.Trims.{trimmed_front, trimmed_back}
-use Rattle.buffer_model.proofs.Totals.{keeps_then}
+use Rattle.std.proofs.Common.{◌≡◌, ◌<◌, ◌++◌, ◌∷◌, [], List, Option, length, refl, ap, sym, subst, ◌∙◌, arith}
+use Rattle.std.specs.Prelude.{IfNone, IfSome}
+use Rattle.storage.specs.declared.release.NoOwner.{NoOwner}
+use Rattle.buffer_model.specs.Segment.{Segment}
+use Rattle.iobuf_chain.specs.Shares.{SharesFront}
 use Rattle.frame_rule.specs.declared.unit.FrameUnit.TheVariants.{Frame}
-use Rattle.frame_rule.proofs.Moving.{moves_none, moves_frame, shares_frame}
+use Rattle.frame_rule.specs.Hauls.{Moves}
+use Rattle.frame_rule.proofs.Moving.{moves_frame, moves_from, numbers_same, shares_frame}
+use Rattle.frame_rule.proofs.Sharing.{whole, trims, whole_totals, frame_totals, shares}
 use Rattle.frame_rule.proofs.cuts.give_frame.Goals as goal
 
-pub returns-in_err-frame-clause-moves : goal.returns-in_err-frame-clause-moves
-returns-in_err-frame-clause-moves c =
-    moves_none _ _ _ _ _ _ c.in_err-frame.ensures.totals c.in_err-frame.ensures.mint (c.reserve.ensures.items, refl, refl)
+pub returns-in-Ok-Some-clause-moves : goal.returns-in-Ok-Some-clause-moves
+returns-in-Ok-Some-clause-moves c =
+    let Q : Option (List (Segment NoOwner)) → Type 0 = λ o. IfSome o (λ w. SharesFront c.args.k c.args.edges.0 c.args.edges.1 c.args.chain.now w c.share_front.new.self) in
+    let s : SharesFront c.args.k c.args.edges.0 c.args.edges.1 c.args.chain.now c.in-Ok-Some.frame c.share_front.new.self =
+    subst Q c.in-Ok-Some.field-0-is c.in-Ok-Some.ensures.cut in
+    moves_frame _ _ _ _ (whole s) c.in-Ok-Some.frame _ _ c.args.at (whole_totals s c.args.mint.now) (numbers_same _ _ refl) (frame_totals s)
+    (c.push_reserved.ensures.items ∙ ap (λ w. w ++ Frame c.args.at c.in-Ok-Some.frame ∷ []) c.reserve.ensures.items) refl refl
 
-pub returns-clause-moves : goal.returns-clause-moves
-returns-clause-moves c =
-    moves_frame _ _ _ _ c.in_ok-frame.frame c.trim_start.new.self _ _ c.args.at c.in_ok-frame.ensures.totals c.in_ok-frame.ensures.mint
-    (keeps_then _ _ _ c.trim_end.ensures.totals c.trim_start.ensures.totals)
-    (c.push_reserved.ensures.items ∙ ap (λ w. w ++ Frame c.args.at c.trim_start.new.self ∷ []) c.reserve.ensures.items) refl refl
+pub returns-in-Ok-Some-clause-shares : goal.returns-in-Ok-Some-clause-shares
+returns-in-Ok-Some-clause-shares c heavy =
+    let Q : Option (List (Segment NoOwner)) → Type 0 = λ o. IfSome o (λ w. SharesFront c.args.k c.args.edges.0 c.args.edges.1 c.args.chain.now w c.share_front.new.self) in
+    let s : SharesFront c.args.k c.args.edges.0 c.args.edges.1 c.args.chain.now c.in-Ok-Some.frame c.share_front.new.self =
+    subst Q c.in-Ok-Some.field-0-is c.in-Ok-Some.ensures.cut in
+    let P : Option (Segment NoOwner) → Type 0 = λ o. IfSome o (λ t. c.args.k < length t.window) in
+    let within : c.args.k < length c.node.result.now.window = omega (arith, c.if-k-length.false, c.length.ensures) in
+    let fits = subst P (sym c.node.ensures) within in
+    shares_frame _ (whole s) _ _ _ c.args.at c.args.edges.0 c.args.edges.1 (shares s (omega (arith, c.if-k-eq0.false)) fits heavy)
+    (c.push_reserved.ensures.items ∙ ap (λ w. w ++ Frame c.args.at c.in-Ok-Some.frame ∷ []) c.reserve.ensures.items
+    ∙ ap (λ w. c.args.haul.now.units.items ++ Frame c.args.at w ∷ []) (trims s))
 
-pub returns-clause-shares : goal.returns-clause-shares
-returns-clause-shares c heavy =
-    let cut : c.trim_start.new.self ≡ trimmed_front c.args.edges.0 (trimmed_back c.args.edges.1 c.in_ok-frame.frame) =
-    c.trim_start.ensures.nodes ∙ ap (λ w. trimmed_front c.args.edges.0 w) c.trim_end.ensures.nodes in
-    shares_frame _ c.in_ok-frame.frame _ _ _ c.args.at c.args.edges.0 c.args.edges.1 (c.in_ok-frame.ensures.shares heavy)
-    (c.push_reserved.ensures.items ∙ ap (λ w. w ++ Frame c.args.at c.trim_start.new.self ∷ []) c.reserve.ensures.items
-    ∙ ap (λ w. c.args.haul.now.units.items ++ Frame c.args.at w ∷ []) cut)
+pub returns-in-Ok-None-clause-moves : goal.returns-in-Ok-None-clause-moves
+returns-in-Ok-None-clause-moves c =
+    let P : List (Segment NoOwner) → Type 0 =
+    λ w. Moves c.args.mint.now c.give_cut-in-Ok-None.new.mint w c.give_cut-in-Ok-None.new.chain (record c.args.haul.now { units = c.reserve.new.self }) c.give_cut-in-Ok-None.new.haul in
+    let Q : Option (List (Segment NoOwner)) → Type 0 = λ o. IfNone o (c.share_front.new.self ≡ c.args.chain.now) in
+    let stays : c.share_front.new.self ≡ c.args.chain.now = subst Q c.in-Ok-None.field-0-is c.in-Ok-None.ensures.stays in
+    moves_from _ _ _ _ _ _ _ (c.reserve.ensures.items, refl, refl) (subst P stays c.give_cut-in-Ok-None.ensures.moves)

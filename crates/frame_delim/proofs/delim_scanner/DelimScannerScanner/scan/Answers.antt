@@ -30,10 +30,10 @@ pub returns-in-Some-clause-found : goal.returns-in-Some-clause-found
 returns-in-Some-clause-found c = λ r size saw.
     let d = c.args.self.now in
     let found = c.in-Some.ensures r saw.1.3 (tail_tells d.list d.longest d.tail c.bytes.result.now r saw.1 c.bytes.ensures) in
-    let S : Scan → Type 0 = λ x. Scanned (Delim d.list d.strip d.max) r c.args.bytes.now x (λ w. (fault_of (Delim d.list d.strip d.max) ≡ None) × Saw d.list d.longest c.new-self.result w) in
+    let S : Scan → Type 0 = λ x. Scanned (Delim d.list d.strip d.max) r c.args.bytes.now x (λ w. (fault_of (Delim d.list d.strip d.max) ≡ None) × Saw d.list d.longest c.clear.new.self w) in
     subst S (sym c.scan_at.ensures)
     (scanned_at (Delim d.list d.strip d.max) d.list d.strip d.max (λ w. refl) r c.args.bytes.now c.args.have c.in-Some.ending _ size found
-    (saw.0, saw_nothing d.list d.longest c.new-self.result d.tail r saw.1 c.new-self.ensures))
+    (saw.0, saw_nothing d.list d.longest c.clear.new.self d.tail r saw.1 c.clear.ensures))
 
 pub returns-then-have-bytes-clause-found : goal.returns-then-have-bytes-clause-found
 returns-then-have-bytes-clause-found c = λ r size saw.
