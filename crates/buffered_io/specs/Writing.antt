@@ -1,5 +1,5 @@
 -- Text on its way to a sink, and what comes of writing it.
-use Rattle.std.specs.Prelude.{◌≡◌, ℕ, Bool, true, false, List, ◌++◌}
+use Rattle.std.specs.Prelude.{◌≡◌, ℕ, Bool, true, false, List, [], ◌∷◌, ◌++◌, decimal}
 use Rattle.relay_ports.specs.States.{SinkState}
 use Rattle.relay_ports.specs.Told.{counted, grown}
 
@@ -39,3 +39,7 @@ pub record PrintsTo (bytes : List ℕ) (d e : Outlet) : Type 0 where
       → (front : List ℕ) × (d.text ++ bytes ≡ front ++ e.text) × Wrote front d.sink e.sink
   -- or the sink failed before their end
   pub broke : d.failed ≡ false → e.failed ≡ true → Broke (d.text ++ bytes) d.sink e.sink
+
+-- a letter and two numbers in decimal, with a space behind each
+abbrev pub entry_text : ℕ → ℕ → ℕ → List ℕ
+entry_text letter first second = letter ∷ 32 ∷ (decimal first ++ 32 ∷ (decimal second ++ 32 ∷ []))

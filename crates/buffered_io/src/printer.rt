@@ -1,9 +1,9 @@
 ghost use Rattle.std.specs.Prelude.{◌≡◌, ◌+◌, ◌*◌, ◌≤◌, false, [], length, decimal, IfOk};
 ghost use Rattle.hex.specs.Hex.{encode_lower};
 ghost use Rattle.relay_ports.specs.States.{SinkState};
-ghost use Rattle.buffered_io.specs.Writing.{PrintsTo, outlet};
+ghost use Rattle.buffered_io.specs.Writing.{PrintsTo, outlet, entry_text};
 
-use crate::texts::{write_bytes, write_decimal, write_hexadecimal};
+use crate::texts::{write_bytes, write_decimal, write_entry, write_hexadecimal};
 use crate::writing::write_all;
 use relay_ports::Sink;
 use std::alloc::{AllocError, Global};
@@ -86,6 +86,17 @@ impl Printer {
     {
         self.make_room(sink, 20);
         self.keep_decimal(n);
+    }
+
+    /// Prints a letter and two numbers in decimal, with a space behind each: the head of a line. There is one look for
+    /// room.
+    #[inline(always)]
+    pub fn put_entry<W: Sink>(&mut self, sink: &mut W, letter: u8, first: u64, second: u64)
+        ensures { PrintsTo (entry_text letter first second)
+            (outlet self.old (W.state sink.old)) (outlet self.new (W.state sink.new)) }
+    {
+        self.make_room(sink, 44);
+        self.keep_entry(letter, first, second);
     }
 
     /// Prints bytes in lower-case hexadecimal, two digits a byte.
@@ -172,6 +183,18 @@ impl Printer {
             return;
         }
         self.used += write_decimal(&mut self.room, self.used, n);
+    }
+
+    // Adds a letter and two numbers, for which there is room.
+    #[inline]
+    fn keep_entry(&mut self, letter: u8, first: u64, second: u64)
+        requires { length self.old.text + 44 ≤ 65536 }
+        ensures { (w : SinkState) → PrintsTo (entry_text letter first second) (outlet self.old w) (outlet self.new w) }
+    {
+        if self.failed {
+            return;
+        }
+        self.used += write_entry(&mut self.room, self.used, letter, first, second);
     }
 
     // Adds bytes in hexadecimal, for which there is room.

@@ -74,6 +74,43 @@ fn text_is_printed_in_order(rt: HostRuntime) -> Result<(), Fail> {
 }
 
 #[test]
+fn bytes_of_each_number_have_their_digits(rt: HostRuntime) -> Result<(), Fail> {
+    let alloc = rt.alloc();
+    let bytes = b"\x00\x1f\x2e\x3d\x4c\x5b\x6a\x79\x88\x97\xa6\xb5\xc4\xd3\xe2\xf1\xff";
+    let text = b"001f2e3d4c5b6a798897a6b5c4d3e2f1ff";
+    for n in [1usize, 7, 8, 9, 15, 16, 17] {
+        let mut sink = sink_of(alloc, 1000, None)?.ok_or("no room")?;
+        let mut printer = Printer::new(alloc)?;
+        printer.put_hexadecimal(&mut sink, &bytes[..n]);
+        printer.flush(&mut sink);
+        assert_eq!(rt; sink.bytes(), &text[..2 * n]);
+    }
+    Ok(())
+}
+
+#[test]
+fn an_entry_is_a_letter_and_two_numbers(rt: HostRuntime) -> Result<(), Fail> {
+    let alloc = rt.alloc();
+    let mut sink = sink_of(alloc, 1000, None)?.ok_or("no room")?;
+    let mut printer = Printer::new(alloc)?;
+    for (letter, first, second) in [
+        (b'F', 1_234_567u64, 16u64),
+        (b'G', 0, 0),
+        (b'H', u64::MAX, u64::MAX),
+        (b'I', 99, 100),
+    ] {
+        printer.put_entry(&mut sink, letter, first, second);
+        printer.put(&mut sink, b"-");
+    }
+    assert!(rt; sink.bytes().is_empty());
+    printer.flush(&mut sink);
+    let text = b"F 1234567 16 -G 0 0 -H 18446744073709551615 18446744073709551615 -I 99 100 -";
+    assert_eq!(rt; sink.bytes(), text.as_slice());
+    assert_eq!(rt; printer.failed(), false);
+    Ok(())
+}
+
+#[test]
 fn a_long_text_goes_out_in_large_writes(rt: HostRuntime) -> Result<(), Fail> {
     let alloc = rt.alloc();
     let piece = vec![in alloc; b'a'; 70_000]?;

@@ -1,5 +1,6 @@
 ghost use Rattle.std.specs.Prelude.{◌≡◌, ◌+◌, ◌*◌, ◌<◌, ◌≤◌, ◌++◌, length, take, decimal, slice_index};
 ghost use Rattle.hex.specs.Hex.{encode_lower, lower_digits};
+ghost use Rattle.buffered_io.specs.Writing.{entry_text};
 
 use itoa::write_digits;
 
@@ -19,9 +20,47 @@ pub(crate) fn write_decimal(room: &mut [u8], at: usize, n: u64) -> usize
     ensures digits { take (at + result) room.new ≡ take at room.old ++ decimal n }
     ensures count { result ≤ 20 }
 {
+    if n < 100 {
+        return write_short(room, at, n);
+    }
     let count = count_digits(n);
     let _start = write_digits(n, room, at + count);
     count
+}
+
+// Writes a number of one or two digits.
+#[inline]
+fn write_short(room: &mut [u8], at: usize, n: u64) -> usize
+    requires short { n < 100 }
+    requires room { at + 20 ≤ length room.old }
+    ensures digits { take (at + result) room.new ≡ take at room.old ++ decimal n }
+    ensures count { result ≤ 20 }
+{
+    if n < 10 {
+        room[at] = b'0' + n as u8;
+        1
+    } else {
+        room[at] = b'0' + (n / 10) as u8;
+        room[at + 1] = b'0' + (n % 10) as u8;
+        2
+    }
+}
+
+/// Writes a letter and two numbers in decimal at a place of a room, with a space behind each, and answers how many
+/// bytes that takes.
+#[inline(always)]
+pub(crate) fn write_entry(room: &mut [u8], at: usize, letter: u8, first: u64, second: u64) -> usize
+    requires { at + 44 ≤ length room.old }
+    ensures text { take (at + result) room.new ≡ take at room.old ++ entry_text letter first second }
+    ensures count { result ≤ 44 }
+{
+    room[at] = letter;
+    room[at + 1] = b' ';
+    let first_count = write_decimal(room, at + 2, first);
+    room[at + 2 + first_count] = b' ';
+    let second_count = write_decimal(room, at + 3 + first_count, second);
+    room[at + 3 + first_count + second_count] = b' ';
+    4 + first_count + second_count
 }
 
 // How many digits a number has in decimal.
@@ -63,7 +102,28 @@ pub(crate) fn write_hexadecimal(room: &mut [u8], at: usize, bytes: &[u8])
     encode(bytes, &mut room[at..at + 2 * bytes.len()]);
 }
 
+// How many bytes a wide instruction makes digits of.
+const BLOCK: usize = 8;
+
 fn encode(bytes: &[u8], text: &mut [u8])
+    requires { length text.old ≡ 2 * length bytes.now }
+    ensures { text.new ≡ encode_lower bytes.now }
+{
+    let n = bytes.len();
+    if n < BLOCK {
+        encode_run(bytes, text);
+        return;
+    }
+    let whole = n - n % BLOCK;
+    encode_run(&bytes[..whole], &mut text[..2 * whole]);
+    // The last block begins in the one before it, and writes the same digits there: so none goes byte by byte.
+    if whole < n {
+        encode_run(&bytes[n - BLOCK..], &mut text[2 * (n - BLOCK)..]);
+    }
+}
+
+#[inline(never)]
+fn encode_run(bytes: &[u8], text: &mut [u8])
     requires { length text.old ≡ 2 * length bytes.now }
     ensures { text.new ≡ encode_lower bytes.now }
 {
@@ -80,9 +140,6 @@ fn digit(value: u8) -> u8
     requires { value < 16 }
     ensures { result ≡ slice_index lower_digits value }
 {
-    if value < 10 {
-        b'0' + value
-    } else {
-        b'a' - 10 + value
-    }
+    let letter = if value < 10 { 0 } else { b'a' - 10 - b'0' };
+    value + b'0' + letter
 }

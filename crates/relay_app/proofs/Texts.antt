@@ -1,6 +1,6 @@
 -- Texts of joined lists.
-use Rattle.std.proofs.Common.{append-nil, ◌≡◌, ℕ, ◌+◌, Some, get_or, ◌<◌, List, [], ◌∷◌, ◌++◌, length, take, sym, ap, ◌∙◌}
-use Rattle.std.specs.Prelude.{slice_get}
+use Rattle.std.proofs.Common.{append-nil, append_assoc, ◌≡◌, ℕ, ◌+◌, Some, get_or, ◌<◌, List, [], ◌∷◌, ◌++◌, length, take, sym, ap, ◌∙◌}
+use Rattle.std.specs.Prelude.{codes, slice_get}
 use Rattle.std.proofs.lemmas.Grind.{flat_map-append}
 use Rattle.std.proofs.lemmas.List.{take_more, map-append}
 use Rattle.std.proofs.lemmas.Option.{get_or_from_slice_get}
@@ -26,3 +26,8 @@ units_further us i u below is =
 
 pub lines-append : (us vs : List FramingUnit) → unit_lines (us ++ vs) ≡ unit_lines us ++ unit_lines vs
 lines-append us vs = flat_map-append unit_line us vs
+
+-- the head of a frame's line
+pub frame_head : (a b : List ℕ) → (((codes "F " ++ a) ++ codes " ") ++ b) ++ codes " " ≡ 70 ∷ 32 ∷ (a ++ 32 ∷ (b ++ 32 ∷ []))
+frame_head a b =
+    ap (λ w. 70 ∷ 32 ∷ (w ++ 32 ∷ [])) (append_assoc a (32 ∷ []) b) ∙ ap (λ w. 70 ∷ 32 ∷ w) (append_assoc a (32 ∷ b) (32 ∷ []))

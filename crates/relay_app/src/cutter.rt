@@ -174,7 +174,11 @@ fn empty(haul: &mut Haul)
     ensures units { haul.new.units.items ≡ [] }
     ensures refused { haul.new.refused ≡ None }
 {
-    haul.units.clear();
+    'units: while let Some(unit) = haul.units.pop() {
+        if let FrameUnit::Frame { chain, .. } = unit {
+            chain.discard();
+        }
+    }
     haul.back.clear();
     haul.refused = None;
 }

@@ -34,11 +34,7 @@ fn print_frame<W: Sink>(printer: &mut Printer, sink: &mut W, at: u64, frame: &Fr
     ensures { PrintsTo (frame_line at (bytes_of frame.now))
         (outlet printer.old (W.state sink.old)) (outlet printer.new (W.state sink.new)) }
 {
-    printer.put(sink, b"F ");
-    printer.put_decimal(sink, at);
-    printer.put(sink, b" ");
-    printer.put_decimal(sink, frame.length() as u64);
-    printer.put(sink, b" ");
+    printer.put_entry(sink, b'F', at, frame.length() as u64);
     print_bytes(printer, sink, frame);
     printer.put(sink, b"\n");
 }
