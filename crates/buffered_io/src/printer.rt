@@ -189,7 +189,8 @@ impl Printer {
     #[inline]
     fn keep_entry(&mut self, letter: u8, first: u64, second: u64)
         requires { length self.old.text + 44 ≤ 65536 }
-        ensures { (w : SinkState) → PrintsTo (entry_text letter first second) (outlet self.old w) (outlet self.new w) }
+        ensures { (w : SinkState) → PrintsTo (entry_text letter first second)
+            (outlet self.old w) (outlet self.new w) }
     {
         if self.failed {
             return;

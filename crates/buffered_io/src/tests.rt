@@ -76,9 +76,12 @@ fn text_is_printed_in_order(rt: HostRuntime) -> Result<(), Fail> {
 #[test]
 fn bytes_of_each_number_have_their_digits(rt: HostRuntime) -> Result<(), Fail> {
     let alloc = rt.alloc();
-    let bytes = b"\x00\x1f\x2e\x3d\x4c\x5b\x6a\x79\x88\x97\xa6\xb5\xc4\xd3\xe2\xf1\xff";
-    let text = b"001f2e3d4c5b6a798897a6b5c4d3e2f1ff";
-    for n in [1usize, 7, 8, 9, 15, 16, 17] {
+    let bytes =
+        b"\x00\x1f\x2e\x3d\x4c\x5b\x6a\x79\x88\x97\xa6\xb5\xc4\xd3\xe2\xf1\xff\x0b\x30\x55\x7a\x9f\xc4\xe9\
+        \x0e\x33\x58\x7d\xa2\xc7\xec\x11\x36\x5b\x80\xa5\xca\xef\x14\x39\x5e\x83\xa8\xcd\xf2\x17\x3c";
+    let text = b"001f2e3d4c5b6a798897a6b5c4d3e2f1ff0b30557a9fc4e9\
+        0e33587da2c7ec11365b80a5caef14395e83a8cdf2173c";
+    for n in [1usize, 7, 8, 9, 15, 16, 17, 31, 32, 33, 47] {
         let mut sink = sink_of(alloc, 1000, None)?.ok_or("no room")?;
         let mut printer = Printer::new(alloc)?;
         printer.put_hexadecimal(&mut sink, &bytes[..n]);

@@ -1,8 +1,9 @@
-ghost use Rattle.std.specs.Prelude.{◌≡◌, ◌+◌, ◌*◌, ◌<◌, ◌≤◌, ◌++◌, length, take, decimal, slice_index};
+ghost use Rattle.std.specs.Prelude.{◌≡◌, ◌+◌, ◌*◌, ◌<◌, ◌≤◌, ◌++◌, length, take, map, decimal, slice_index, slice_range, All};
 ghost use Rattle.hex.specs.Hex.{encode_lower, lower_digits};
 ghost use Rattle.buffered_io.specs.Writing.{entry_text};
 
 use itoa::write_digits;
+use std::simd::prelude::*;
 
 /// Writes bytes at a place of a room.
 #[inline(always)]
@@ -14,7 +15,7 @@ pub(crate) fn write_bytes(room: &mut [u8], at: usize, bytes: &[u8])
 }
 
 /// Writes a number in decimal at a place of a room, and answers how many digits it has.
-#[inline]
+#[inline(always)]
 pub(crate) fn write_decimal(room: &mut [u8], at: usize, n: u64) -> usize
     requires { at + 20 ≤ length room.old }
     ensures digits { take (at + result) room.new ≡ take at room.old ++ decimal n }
@@ -23,6 +24,16 @@ pub(crate) fn write_decimal(room: &mut [u8], at: usize, n: u64) -> usize
     if n < 100 {
         return write_short(room, at, n);
     }
+    write_long(room, at, n)
+}
+
+// Writes a number of any size.
+#[inline(never)]
+fn write_long(room: &mut [u8], at: usize, n: u64) -> usize
+    requires { at + 20 ≤ length room.old }
+    ensures digits { take (at + result) room.new ≡ take at room.old ++ decimal n }
+    ensures count { result ≤ 20 }
+{
     let count = count_digits(n);
     let _start = write_digits(n, room, at + count);
     count
@@ -102,37 +113,72 @@ pub(crate) fn write_hexadecimal(room: &mut [u8], at: usize, bytes: &[u8])
     encode(bytes, &mut room[at..at + 2 * bytes.len()]);
 }
 
-// How many bytes a wide instruction makes digits of.
-const BLOCK: usize = 8;
-
 fn encode(bytes: &[u8], text: &mut [u8])
     requires { length text.old ≡ 2 * length bytes.now }
     ensures { text.new ≡ encode_lower bytes.now }
 {
-    let n = bytes.len();
-    if n < BLOCK {
-        encode_run(bytes, text);
-        return;
-    }
-    let whole = n - n % BLOCK;
-    encode_run(&bytes[..whole], &mut text[..2 * whole]);
-    // The last block begins in the one before it, and writes the same digits there: so none goes byte by byte.
-    if whole < n {
-        encode_run(&bytes[n - BLOCK..], &mut text[2 * (n - BLOCK)..]);
+    if bytes.len() < BLOCK {
+        encode_few(bytes, text);
+    } else {
+        encode_many(bytes, text);
     }
 }
 
 #[inline(never)]
-fn encode_run(bytes: &[u8], text: &mut [u8])
+fn encode_few(bytes: &[u8], text: &mut [u8])
     requires { length text.old ≡ 2 * length bytes.now }
     ensures { text.new ≡ encode_lower bytes.now }
 {
-    // Digits are computed and not looked up, so that the compiler makes wide instructions of the loop.
     'bytes: for i in 0..bytes.len() {
         let byte = bytes[i];
         text[2 * i] = digit(byte / 16);
         text[2 * i + 1] = digit(byte % 16);
     }
+}
+
+// How many bytes become digits at once.
+const BLOCK: usize = 16;
+
+fn encode_many(bytes: &[u8], text: &mut [u8])
+    requires some { 16 ≤ length bytes.now }
+    requires room { length text.old ≡ 2 * length bytes.now }
+    ensures { text.new ≡ encode_lower bytes.now }
+{
+    let n = bytes.len();
+    let mut at = 0;
+    while at + BLOCK <= n {
+        encode_block(bytes, at, text);
+        at += BLOCK;
+    }
+    // The last block begins in the one before it, and writes the same digits there: so none goes byte by byte.
+    if at < n {
+        encode_block(bytes, n - BLOCK, text);
+    }
+}
+
+// Writes the digits of the 16 bytes at a place.
+#[inline(always)]
+fn encode_block(bytes: &[u8], at: usize, text: &mut [u8])
+    requires within { at + 16 ≤ length bytes.now }
+    requires room { length text.old ≡ 2 * length bytes.now }
+    ensures { take (2 * (at + 16)) text.new
+        ≡ take (2 * at) text.old ++ encode_lower (slice_range bytes.now at (at + 16)) }
+{
+    let lanes = u8x16::from_slice(&bytes[at..]);
+    let high = digits_of(lanes / u8x16::splat(16));
+    let low = digits_of(lanes % u8x16::splat(16));
+    let (front, back) = high.interleave(low);
+    front.copy_to_slice(&mut text[2 * at..]);
+    back.copy_to_slice(&mut text[2 * at + BLOCK..]);
+}
+
+#[inline(always)]
+fn digits_of(values: u8x16) -> u8x16
+    requires { All (λ v. v < 16) values }
+    ensures { result ≡ map (λ v. slice_index lower_digits v) values }
+{
+    let letters = values.simd_gt(u8x16::splat(9));
+    values + letters.select(u8x16::splat(b'a' - 10), u8x16::splat(b'0'))
 }
 
 #[inline]

@@ -1,5 +1,5 @@
 use Rattle.buffered_io.proofs.Digits.{written_at}
-use Rattle.buffered_io.proofs.texts.write_decimal.Goals as goal
+use Rattle.buffered_io.proofs.texts.write_long.Goals as goal
 use Rattle.std.proofs.Common.{◌≡◌, arith}
 use Rattle.std.specs.Prelude.{decimal}
 

@@ -1,7 +1,7 @@
 use Rattle.std.proofs.Common.{arith}
 use Rattle.hex.specs.Hex.{lower_digits}
 use Rattle.hex.proofs.Pairs.{encode_step, encode_done}
-use Rattle.buffered_io.proofs.texts.encode_run.Goals as goal
+use Rattle.buffered_io.proofs.texts.encode_few.Goals as goal
 
 pub bytes-preserved : goal.bytes-preserved
 bytes-preserved c =
