@@ -1,6 +1,6 @@
 ghost use Rattle.std.specs.Prelude.{◌≡◌, ◌∷◌, []};
 ghost use Rattle.frame_rule.specs.Units.{unit_of};
-ghost use Rattle.relay_app.specs.Noting.{fault_after, first_fault};
+ghost use Rattle.relay_app.specs.Noting.{fault_after};
 
 use frame_rule::{FaultKind, FrameUnit};
 
@@ -16,19 +16,13 @@ pub struct StreamFault {
 pub(crate) fn note(fault: &mut Option<StreamFault>, unit: &FrameUnit)
     ensures { fault.new ≡ fault_after fault.old (unit_of unit.now ∷ []) }
 {
-    if fault.is_none() {
-        *fault = fault_of_unit(unit);
-    }
-}
-
-fn fault_of_unit(unit: &FrameUnit) -> Option<StreamFault>
-    ensures { result ≡ first_fault (unit_of unit.now ∷ []) }
-{
     match unit {
-        FrameUnit::Frame { .. } => None,
-        FrameUnit::Fault { at, kind } => Some(StreamFault {
-            at: *at,
-            kind: *kind,
-        }),
+        FrameUnit::Fault { at, kind } if fault.is_none() => {
+            *fault = Some(StreamFault {
+                at: *at,
+                kind: *kind,
+            });
+        }
+        _ => {}
     }
 }
