@@ -18,8 +18,8 @@ use iobuf_chain::Frame;
 use share_count::Mint;
 use std::alloc::{AllocError, Global};
 
-/// How far a stream was scanned: its scanner, how many bytes were taken, how many of them are an open unit, whether these
-/// are lost since no frame can come of them, and how many of the next bytes are skipped.
+/// How far a stream was scanned: its scanner, how many bytes were taken, how many of them are an open unit, whether
+/// these are lost since no frame can come of them, and how many of the next bytes are skipped.
 #[derive(Drop)]
 pub(crate) struct Progress<S: Scanner> {
     pub(crate) scanner: S,
@@ -80,15 +80,15 @@ impl<S: Scanner> Progress<S> {
         ensures shares { WithData IsHeavy chain.old → OnOk result
             (SharesData chain.old chain.new haul.old.units.items haul.new.units.items) }
     {
-        let node = chain.node(i);
-        let len = node.length();
+        let bytes = chain.node(i).bytes();
+        let len = bytes.len();
         if self.skip > 0 {
             let n = least(self.skip, len);
             self.leave(alloc, chain, n, haul, mint)?;
             self.skip -= n as u128;
             return Ok(0);
         }
-        match self.scanner.scan(self.unread as usize, node.bytes()) {
+        match self.scanner.scan(self.unread as usize, bytes) {
             Scan::Open => {
                 if self.lost {
                     self.lose(alloc, chain, len, haul, mint)?;
@@ -251,8 +251,13 @@ fn with_data(chain: &Frame, i: usize) -> usize
     ensures rest { bytes_of (drop result chain.now) ≡ bytes_of (drop i chain.now) }
     ensures data { result < length chain.now → ForSome (slice_get chain.now result) (λ s. 0 < length s.window) }
 {
+    let nodes = chain.elements();
+    // Nearly always it is the first node, which lies apart from the others.
+    if i == 0 && chain.node(0).length() > 0 {
+        return 0;
+    }
     let mut i = i;
-    'empties: while i < chain.elements() {
+    'empties: while i < nodes {
         if chain.node(i).length() > 0 {
             return i;
         }
