@@ -6,7 +6,8 @@ use crate::tail::Tail;
 use frame_head::{Codec, FaultKind, Marks};
 use frame_rule::{Scan, Scanner, scan_at};
 
-/// Finds the delimiters that end frames. Of the bytes that it has seen it keeps those with which a delimiter may begin, 63 at most.
+/// Finds the delimiters that end frames. Of the bytes that it has seen it keeps those with which a delimiter may begin,
+/// 63 at most.
 #[derive(Debug, Drop)]
 pub struct DelimScanner {
     list: Marks,

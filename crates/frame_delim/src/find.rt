@@ -11,7 +11,8 @@ use frame_head::Marks;
 use frame_rule::Ending;
 use memchr::{memchr, memchr2, memchr3};
 
-// The first delimiter in bytes that come behind open ones, of which `tail` are the last. It looks at each byte once, and at the 64 before one that may end a delimiter.
+// The first delimiter in bytes that come behind open ones, of which `tail` are the last. It looks at each byte once,
+// and at the 64 before one that may end a delimiter.
 pub(crate) fn find_ending(list: &Marks, tail: &[u8], bytes: &[u8]) -> Option<Ending>
     requires { NoneEmpty list.now }
     ensures { (r : List ℕ) → Unended list.now r → Tells list.now tail.now r → FindsEnding list.now r bytes.now result }

@@ -17,7 +17,8 @@ pub(crate) struct Header {
     max: u64,
 }
 
-/// Finds the ends of frames by a length field. It keeps the bytes of the field as they come, and then where the frame ends.
+/// Finds the ends of frames by a length field. It keeps the bytes of the field as they come, and then where the frame
+/// ends.
 #[derive(Debug, Drop)]
 pub struct LengthScanner {
     header: Header,

@@ -89,7 +89,8 @@ fn find_ending(ending: LineEnd, after_return: bool, bytes: &[u8]) -> Option<Endi
     None
 }
 
-// Whether a carriage return stands right before a place of bytes that come behind open ones, of which the last is one or not.
+// Whether a carriage return stands right before a place of bytes that come behind open ones, of which the last is one
+// or not.
 fn is_after_return(after_return: bool, bytes: &[u8], place: usize) -> bool
     requires { place ≤ length bytes.now }
     ensures { (r : List ℕ) → ends_in_return r ≡ after_return → ends_in_return (r ++ take place bytes.now) ≡ result }

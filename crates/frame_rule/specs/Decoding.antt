@@ -20,20 +20,23 @@ pub record Decoding : Type 0 where
 abbrev pub fresh : Codec → Decoding
 fresh codec = record { codec = codec; fed = 0; kept = []; dead = false }
 
--- a decoder before and after a piece of n bytes, and the answer: it was fed them; or memory was refused, and it is dead; or it was dead before, and nothing changed
+-- a decoder before and after a piece of n bytes, and the answer: it was fed them; or memory was refused, and it is
+-- dead; or it was dead before, and nothing changed
 abbrev pub Fed : {U : Type 0} → ℕ → Decoding → Decoding → Result U FeedFault → Type 0
 Fed n old new (Ok u) = (old.dead ≡ false) × (new ≡ record old { fed = old.fed + n; kept = new.kept })
 Fed n old new (Err NoMemory) =
     (old.dead ≡ false) × (new ≡ record old { fed = new.fed; kept = new.kept; dead = true })
 Fed n old new (Err Dead) = (old.dead ≡ true) × (new ≡ old)
 
--- a decoder before and after the end of the stream, and the answer: it keeps nothing and is dead; or memory was refused, and it is dead; or it was dead before, and nothing changed
+-- a decoder before and after the end of the stream, and the answer: it keeps nothing and is dead; or memory was
+-- refused, and it is dead; or it was dead before, and nothing changed
 abbrev pub Ended : {U : Type 0} → Decoding → Decoding → Result U FeedFault → Type 0
 Ended old new (Ok u) = (old.dead ≡ false) × (new ≡ record old { kept = []; dead = true })
 Ended old new (Err NoMemory) = (old.dead ≡ false) × (new ≡ record old { kept = new.kept; dead = true })
 Ended old new (Err Dead) = (old.dead ≡ true) × (new ≡ old)
 
--- a decoder that stood for some bytes took the bytes p: it stands for both, and exactly the units were added that p makes whole
+-- a decoder that stood for some bytes took the bytes p: it stands for both, and exactly the units were added that p
+-- makes whole
 pub record TakesIn (stood now : List ℕ → Type 0) (codec : Codec) (p : List ℕ) (old new : List FrameUnit) : Type 0 where
   pub stands : (h : List ℕ) → stood h → now (h ++ p)
   pub grew : (h : List ℕ) → stood h → Grew (units codec h) (units codec (h ++ p)) old new

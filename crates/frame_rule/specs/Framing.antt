@@ -10,7 +10,8 @@ use Rattle.frame_rule.specs.Scanning.{IsHopeless, most_kept}
 use Rattle.frame_rule.specs.Units.{units_of}
 use Rattle.frame_rule.specs.Decoding.{Decoding}
 
--- a decoder: its scanner, how many bytes it was fed, how many of them are an open unit, the nodes that it keeps of those, whether it keeps none because they are hopeless, how many of the next bytes it skips, and whether it is dead
+-- a decoder: its scanner, how many bytes it was fed, how many of them are an open unit, the nodes that it keeps of
+-- those, whether it keeps none because they are hopeless, how many of the next bytes it skips, and whether it is dead
 pub record Framing (S O : Type 0) : Type 0 where
   pub scanner : S
   pub fed : ℕ
@@ -25,7 +26,8 @@ abbrev pub fresh : {S O : Type 0} → S → Framing S O
 fresh scanner = record { scanner = scanner; fed = 0; unread = 0; kept = []; lost = false; skip = 0; dead = false }
 
 module _ {S O : Type 0} (codec_of : S → Codec) (saw : S → List ℕ → Type 0) where
-  -- a decoder that isn't dead stands for the bytes that it was fed: its scanner has seen what is an open unit of them, and it keeps those bytes, or none where no frame can come of them
+  -- a decoder that isn't dead stands for the bytes that it was fed: its scanner has seen what is an open unit of them,
+  -- and it keeps those bytes, or none where no frame can come of them
   pub record StandsFor (d : Framing S O) (h : List ℕ) : Type 0 where
     pub alive : d.dead ≡ false
     pub fed : d.fed ≡ length h
@@ -69,7 +71,8 @@ module _ {S : Type 0} (codec_of : S → Codec) (saw : S → List ℕ → Type 0)
   abbrev pub Stands : Progress S → List (Segment NoOwner) → Type 0
   Stands p nodes = (h : List ℕ) × StandsFor codec_of saw (framing p nodes) h
 
-  -- of a chain whose first i nodes were an open unit bytes were taken, and units added; and of what is left the first j nodes are the open unit
+  -- of a chain whose first i nodes were an open unit bytes were taken, and units added; and of what is left the first j
+  -- nodes are the open unit
   pub record Passes (old new : Progress S) (i j : ℕ) (before after : List (Segment NoOwner)) (us vs : List FrameUnit)
       : Type 0 where
     pub taken : List ℕ

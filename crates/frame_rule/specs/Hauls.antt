@@ -48,7 +48,8 @@ pub record ReturnsPiece (piece : List (Segment NoOwner)) (old new : Haul) : Type
   pub back : (new.back.items ≡ old.back.items)
       ⊎ ((backs : List (Back NoOwner)) × AreReturns piece backs × (new.back.items ≡ old.back.items ++ backs ∷ []))
 
--- no data was copied: the nodes with data that are kept, and those of the units that were added, have storages of these nodes; and they can still be cut, and be shared
+-- no data was copied: the nodes with data that are kept, and those of the units that were added, have storages of these
+-- nodes; and they can still be cut, and be shared
 pub record SharesData (had kept : List (Segment NoOwner)) (old new : List FrameUnit) : Type 0 where
   pub added : List FrameUnit
   pub haul : new ≡ old ++ added
@@ -67,7 +68,8 @@ pub record Moves (old new : Numbers) (before after : List (Segment NoOwner)) (ha
   pub back : Begins haul.back.items now.back.items
   pub refused : now.refused ≡ haul.refused
 
--- nodes that were cut off, and those that stay: no data was copied, they can still be shared, and these can still be cut
+-- nodes that were cut off, and those that stay: no data was copied, they can still be shared, and these can still be
+-- cut
 pub record CutsShare (had front rest : List (Segment NoOwner)) : Type 0 where
   pub front_copies : CopiesNoData had front
   pub rest_copies : CopiesNoData had rest

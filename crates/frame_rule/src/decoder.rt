@@ -36,9 +36,13 @@ pub trait Decoder: Send + Drop {
     /// It was fed exactly these bytes.
     ghost stands: { Self → List ℕ → Type 0 };
 
-    /// Takes the next piece of the stream, and adds the units that it makes whole to the haul. Nodes whose bytes are used up are given back, into the haul too.
+    /// Takes the next piece of the stream, and adds the units that it makes whole to the haul. Nodes whose bytes are
+    /// used up are given back, into the haul too.
     ///
-    /// Linear in the bytes and the nodes of the piece. After `NoMemory` the first of the new units were added, the decoder is dead, and it keeps what is left of the piece, or the whole piece stands in the haul's `refused`. `Dead` comes exactly where the decoder was dead before; what the piece hands back is then added to the haul where there is room, and dropped otherwise.
+    /// Linear in the bytes and the nodes of the piece. After `NoMemory` the first of the new units were added, the
+    /// decoder is dead, and it keeps what is left of the piece, or the whole piece stands in the haul's `refused`.
+    /// `Dead` comes exactly where the decoder was dead before; what the piece hands back is then added to the haul
+    /// where there is room, and dropped otherwise.
     fn feed(
         &mut self,
         alloc: Global,
@@ -66,7 +70,8 @@ pub trait Decoder: Send + Drop {
             ((state self.old).kept ++ piece.entry) (state self.new).kept haul.old.units.items haul.new.units.items) }
         ensures mint { NumbersOn mint.old mint.new };
 
-    /// Ends the stream, and adds what its end adds to the haul. The decoder is dead from then on, and keeps nothing, but after `NoMemory` what it kept before. O(1) but for the nodes that are given back.
+    /// Ends the stream, and adds what its end adds to the haul. The decoder is dead from then on, and keeps nothing,
+    /// but after `NoMemory` what it kept before. O(1) but for the nodes that are given back.
     fn end(&mut self, alloc: Global, haul: &mut Haul, mint: &mut Mint) -> Result<(), FeedFault>
         ensures state { Ended (state self.old) (state self.new) result }
         ensures units { OnOk result (TakesEnd (stands self.old) (state self.old).codec

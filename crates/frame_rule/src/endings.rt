@@ -4,14 +4,16 @@ ghost use Rattle.frame_rule.specs.Endings.{scan_of};
 use crate::scanner::Scan;
 use frame_head::FaultKind;
 
-/// Where a unit ends with an ending: the place of the ending's last byte among the bytes that came, and the ending's size in bytes.
+/// Where a unit ends with an ending: the place of the ending's last byte among the bytes that came, and the ending's
+/// size in bytes.
 #[derive(Clone, Copy, Debug, PartialEq, Eq)]
 pub struct Ending {
     pub place: usize,
     pub size: usize,
 }
 
-/// What the first ending makes of `have` open bytes and those up to it: a frame, with its ending unless it is stripped, or a fault where more than `max` bytes stand before the ending.
+/// What the first ending makes of `have` open bytes and those up to it: a frame, with its ending unless it is stripped,
+/// or a fault where more than `max` bytes stand before the ending.
 pub fn scan_at(strip: bool, max: u64, have: usize, ending: Ending) -> Scan
     requires room { have + ending.place < 2 ^ 62 }
     requires fits { ending.size ≤ have + ending.place + 1 }

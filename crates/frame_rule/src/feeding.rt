@@ -19,8 +19,8 @@ use share_count::Mint;
 use std::alloc::{AllocError, Global};
 
 impl<S: Scanner> Progress<S> {
-    /// Takes a piece in behind the nodes that are kept. At want of memory what is left of it is kept, or all of it stands
-    /// in the haul.
+    /// Takes a piece in behind the nodes that are kept. At want of memory what is left of it is kept, or all of it
+    /// stands in the haul.
     pub(crate) fn take_in(
         &mut self,
         alloc: Global,

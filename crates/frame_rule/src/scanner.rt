@@ -13,7 +13,8 @@ pub enum Scan {
     Open,
     /// The unit goes on behind these bytes, and becomes no frame whatever follows, so its bytes needn't be kept.
     Hopeless,
-    /// The unit ends behind the first `used` of these bytes, and is a frame without its first `front` and its last `back`.
+    /// The unit ends behind the first `used` of these bytes, and is a frame without its first `front` and its last
+    /// `back`.
     Frame {
         used: usize,
         front: usize,
@@ -27,7 +28,8 @@ pub enum Scan {
     },
 }
 
-/// Finds where the units of a stream end. It looks at each byte a constant number of times, keeps 63 bytes at most, and takes no memory.
+/// Finds where the units of a stream end. It looks at each byte a constant number of times, keeps 63 bytes at most, and
+/// takes no memory.
 pub trait Scanner: Drop {
     /// The codec by which it scans, which no call changes.
     ghost codec_of: { Self → Codec };
@@ -45,7 +47,8 @@ pub trait Scanner: Drop {
         ensures codec { codec_of result ≡ codec }
         ensures fresh { saw result [] };
 
-    /// Scans the bytes that come behind the `have` open bytes that it has seen. What is behind the end of a unit is left to the next call.
+    /// Scans the bytes that come behind the `have` open bytes that it has seen. What is behind the end of a unit is
+    /// left to the next call.
     fn scan(&mut self, have: usize, bytes: &[u8]) -> Scan
         requires seen { (r : List ℕ) × (length r ≡ have) × saw self.old r }
         requires some { 0 < length bytes.now }

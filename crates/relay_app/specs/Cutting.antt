@@ -39,7 +39,8 @@ module _ {D : Type 0} where
     pub noted : c.fault ≡ first_fault us
 
   -- these units are printed and noted next
-  pub record TakesUnits (us : List FramingUnit) (c : Cutting D) (v : SinkState) (d : Cutting D) (u : SinkState) : Type 0 where
+  pub record TakesUnits (us : List FramingUnit) (c : Cutting D) (v : SinkState) (d : Cutting D) (u : SinkState)
+      : Type 0 where
     pub state : d ≡ record c { waiting = d.waiting; fault = fault_after c.fault us }
     pub prints : PrintsTo (unit_lines us) (outlet c.waiting v) (outlet d.waiting u)
 

@@ -19,8 +19,8 @@ use std::alloc::{AllocError, Global};
 ///
 /// The input is read in blocks of `block` bytes, to its end, its first failure, or the limit of `limit` bytes.
 /// After a failure of the report nothing more is written, and the input is still read to its end. It is linear in
-/// the input, copies no byte of a frame, and keeps two blocks, the units of one (some 200 bytes each), the blocks of the
-/// open frame, and 64 KiB of text.
+/// the input, copies no byte of a frame, and keeps two blocks, the units of one (some 200 bytes each), the blocks of
+/// the open frame, and 64 KiB of text.
 pub fn frames<H: Host>(
     alloc: Global,
     host: &mut H,

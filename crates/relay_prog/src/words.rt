@@ -2,7 +2,8 @@ use std::alloc::{AllocError, Global};
 use std::env::FillError;
 use std::rt::Env;
 
-/// The words that the program was given, without its own name. What isn't UTF-8 in a word is replaced by U+FFFD, which stands in no word of the grammar.
+/// The words that the program was given, without its own name. What isn't UTF-8 in a word is replaced by U+FFFD, which
+/// stands in no word of the grammar.
 pub fn words<R: Env>(rt: &R, alloc: Global) -> Result<Vec<String>, AllocError> {
     let mut words = Vec::new(alloc);
     for i in 1..usize::MAX {
