@@ -4,7 +4,8 @@ use Rattle.std.specs.Prelude.{flat_map, map}
 use Rattle.std.proofs.lemmas.List.{take_more, map-append}
 use Rattle.std.proofs.lemmas.Grind.{flat_map-append}
 use Rattle.frame_head.specs.declared.codecs.Codec.{Codec}
-use Rattle.frame_head.specs.Units.{FramingUnit, units, ended}
+use Rattle.frame_head.specs.Heads.{FramingUnit}
+use Rattle.frame_head.specs.Units.{units, ended}
 use Rattle.frame_rule.specs.declared.unit.FrameUnit.{FrameUnit}
 use Rattle.frame_rule.specs.Decoding.{TakesIn, TakesEnd}
 use Rattle.frame_rule.specs.Units.{Grew, units_of, unit_of}

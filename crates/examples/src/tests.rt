@@ -1,5 +1,5 @@
 ghost use Rattle.std.specs.Prelude.{◌≡◌, None};
-ghost use Rattle.frame_head.specs.Checks.{fault_of};
+ghost use Rattle.frame_head.specs.Codecs.{fault_of};
 
 use super::*;
 use any_scanner::AnyScanner;

@@ -2,7 +2,7 @@
 use Rattle.std.proofs.Common.{◌≡◌, ℕ, ◌+◌, ◌-◌, ◌<◌, ◌≤◌, Bool, List, [], ◌++◌, None, length, refl, ap, sym, ◌∙◌, subst, arith, length-append}
 use Rattle.std.proofs.Math.Seq.{drop-nil}
 use Rattle.frame_head.specs.declared.codecs.Codec.TheVariants.{Delim}
-use Rattle.frame_head.specs.Checks.{fault_of}
+use Rattle.frame_head.specs.Codecs.{fault_of}
 use Rattle.frame_rule.specs.declared.scanner.Scan.TheVariants.{Open, Hopeless}
 use Rattle.frame_rule.specs.Scanning.{Scanned}
 use Rattle.frame_rule.specs.Endings.{Unended}

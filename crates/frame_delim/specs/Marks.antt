@@ -1,12 +1,6 @@
 -- Delimiters.
 use Rattle.std.specs.Prelude.{ℕ, ◌-◌, ◌<◌, ◌≤◌, Bool, true, ◌||◌, ◌==◌, List, [], ◌∷◌, Option, Some, None, length, slice_index, nat_lt, if◌then◌else◌}
 use Rattle.std.specs.List.{Contains}
-use Rattle.frame_head.specs.declared.codecs.Codec.{Codec}
-use Rattle.frame_head.specs.declared.codecs.Codec.TheVariants.{Delim}
-
-abbrev pub IsDelim : Codec → Type 0
-IsDelim (Delim list strip max) = Unit {0}
-IsDelim _ = ⊥
 
 -- no delimiter is empty
 abbrev pub NoneEmpty : List (List ℕ) → Type 0

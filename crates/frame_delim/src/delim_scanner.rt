@@ -21,8 +21,7 @@ pub struct DelimScanner {
 impl Scanner for DelimScanner {
     ghost use Rattle.std.specs.Prelude.{◌≡◌, None};
     ghost use Rattle.frame_head.specs.declared.codecs.Codec.TheVariants.{Delim};
-    ghost use Rattle.frame_head.specs.Checks.{fault_of};
-    ghost use Rattle.frame_delim.specs.Marks.{IsDelim};
+    ghost use Rattle.frame_head.specs.Codecs.{IsDelim, fault_of};
     ghost use Rattle.frame_delim.specs.Tails.{Saw};
 
     ghost codec_of = { λ s. Delim s.list s.strip s.max };

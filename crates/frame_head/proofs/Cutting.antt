@@ -2,8 +2,9 @@
 use Rattle.std.proofs.Common.{◌≡◌, ℕ, suc, ◌+◌, ◌-◌, ◌<◌, ◌≤◌, List, [], ◌∷◌, ◌++◌, length, drop, flat_map, refl, ap, sym, ◌∙◌, arith, length-append, length-drop, append_assoc, append-nil, add-zero, drop_of_length-le}
 use Rattle.std.proofs.Math.Seq.{drop-append_seam}
 use Rattle.frame_head.specs.declared.codecs.Codec.{Codec}
-use Rattle.frame_head.specs.Heads.{Head, More, Whole, Bad, UsesAtLeast, head}
-use Rattle.frame_head.specs.Units.{FramingUnit, FrameAt, FaultAt, unit_and, left_by, overrun_by, units_from, rest_after, overrun_after, units, rest, overrun, units_of_end, ended}
+use Rattle.frame_head.specs.Heads.{Head, More, Whole, Bad, UsesAtLeast, FramingUnit, FrameAt, FaultAt}
+use Rattle.frame_head.specs.Codecs.{head}
+use Rattle.frame_head.specs.Units.{unit_and, left_by, overrun_by, units_from, rest_after, overrun_after, units, rest, overrun, units_of_end, ended}
 use Rattle.frame_head.specs.Laws.{Extends, added_by, added_in_turn, added_at_end}
 use Rattle.frame_head.proofs.Steady.{Steady, same, shorter, nothing_left, resumed}
 use Rattle.frame_head.proofs.Lists.{nil_from_length}

@@ -1,13 +1,11 @@
 -- The length codec: its heads stay, and use all that was asked for.
 use Rattle.std.proofs.Common.{◌≡◌, ℕ, zero, suc, ◌+◌, ◌<◌, ◌≤◌, ℤ, Bool, true, false, List, [], ◌++◌, Option, Some, None, length, take, drop, nat_lt, if◌then◌else◌, refl, ap, ◌∙◌, arith, length-append, length-drop, ltb-false, le-ltb, lt-ltb}
 use Rattle.std.proofs.lemmas.List.{drop-append-le, take-append-le}
-use Rattle.frame_head.specs.declared.codecs.Codec.{Codec}
-use Rattle.frame_head.specs.declared.codecs.Codec.TheVariants.{Length, Line, Delim, Fixed}
+use Rattle.frame_head.specs.declared.codecs.Codec.TheVariants.{Length}
 use Rattle.frame_head.specs.declared.codecs.FaultKind.TheVariants.{TooLong, StripOver}
 use Rattle.frame_head.specs.Numbers.{number_in_order, adjusted}
-use Rattle.frame_head.specs.Checks.{length_fault, fault_of}
+use Rattle.frame_head.specs.Checks.{length_fault}
 use Rattle.frame_head.specs.Heads.{Head, More, Whole, Bad, UsesAtLeast, sized, measured, length_head}
-use Rattle.frame_head.specs.Laws.{IsLength}
 use Rattle.frame_head.proofs.Steady.{Steady}
 
 -- a length field that is passed has a byte
@@ -93,14 +91,11 @@ opens_by field offset adjust strip little max some =
     ap (λ b. if b then More else measured strip max (offset + field) (adjusted (number_in_order little (take field (drop offset []))) adjust) []) e
 
 -- a length codec that is passed
-pub steady : (c : Codec) → fault_of c ≡ None → IsLength c → Steady c
-steady (Length field offset adjust strip little max) checked kind =
+pub length_steady : (field offset : ℕ) (adjust : ℤ) (strip : ℕ) (little : Bool) (max : ℕ) → length_fault field offset max ≡ None → Steady (Length field offset adjust strip little max)
+length_steady field offset adjust strip little max checked =
     let some : 0 < field = some_field field offset max checked in
     record {
       stable = λ s r not. length_head_stays field offset adjust strip little max s r not;
       advances = λ s. uses_field field offset adjust strip little max 1 s (omega arith);
       opens = opens_by field offset adjust strip little max some;
     }
-steady (Line ending strip max) checked kind = absurd kind
-steady (Delim list strip max) checked kind = absurd kind
-steady (Fixed size) checked kind = absurd kind

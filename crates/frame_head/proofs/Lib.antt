@@ -3,9 +3,10 @@ pub mod Steady
 pub mod Length
 pub mod Ended
 pub mod Fixed
-pub mod Passed
 pub mod FirstEnding
 pub mod Cutting
 pub mod Delimiters
 pub mod Fits
 pub mod Shortness
+pub mod Cases
+pub mod Bounds

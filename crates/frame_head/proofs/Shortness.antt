@@ -1,21 +1,18 @@
--- No frame is longer than its codec's longest.
-use Rattle.std.proofs.Common.{◌≡◌, ℕ, zero, suc, ◌+◌, ◌-◌, ◌^◌, ◌<◌, ◌≤◌, ℤ, Bool, true, false, List, [], ◌∷◌, ◌++◌, Option, Some, None, length, take, drop, nat_lt, nat_eq, if◌then◌else◌, All, refl, arith, subst, ltb-false, length-drop, length-take}
+-- Heads and last units that are no frame over a length, by the parts of a codec.
+use Rattle.std.proofs.Common.{◌≡◌, ℕ, ◌+◌, ◌-◌, ◌^◌, ◌<◌, ◌≤◌, ℤ, Bool, true, false, List, [], ◌∷◌, ◌++◌, Option, Some, None, length, take, drop, nat_lt, nat_eq, if◌then◌else◌, All, refl, arith, subst, ltb-false, length-drop, length-take}
 use Rattle.std.proofs.lemmas.List.{length-take-le}
-use Rattle.std.proofs.lemmas.List.Elements.{All-cons, All-drop, All-take, All-append}
+use Rattle.std.proofs.lemmas.List.Elements.{All-drop, All-take}
 use Rattle.std.specs.List.{ends_with}
-use Rattle.frame_head.specs.declared.codecs.Codec.{Codec}
-use Rattle.frame_head.specs.declared.codecs.Codec.TheVariants.{Length, Line, Delim, Fixed}
 use Rattle.frame_head.specs.declared.codecs.FaultKind.TheVariants.{TooLong, StripOver}
 use Rattle.frame_head.specs.Numbers.{number_in_order, adjusted}
-use Rattle.frame_head.specs.Endings.{line_endings, longer, longest_ending, ended_or, first_ended}
-use Rattle.frame_head.specs.Heads.{Head, More, Whole, Bad, sized, measured, length_head, terminated, head}
-use Rattle.frame_head.specs.Units.{FramingUnit, FrameAt, FaultAt, unit_and, units_from, units, rest, last_unit, units_of_end, ended}
-use Rattle.frame_head.specs.Longest.{most_in_field, longest_mark, longest_ended, longest_up_to, longest_length, longest_of}
+use Rattle.frame_head.specs.Endings.{longer, longest_ending, ended_or, first_ended}
+use Rattle.frame_head.specs.Heads.{Head, More, Whole, Bad, FrameAt, FaultAt, sized, measured, length_head, terminated}
+use Rattle.frame_head.specs.Longest.{most_in_field, longest_mark, longest_ended, longest_up_to, longest_length}
 use Rattle.frame_head.specs.Bounds.{IsWithin}
 use Rattle.frame_head.proofs.Fits.{field_within, end_within}
 
 -- a head that is no frame of more than `n` bytes
-abbrev IsShort : ℕ → Head → Type 0
+abbrev pub IsShort : ℕ → Head → Type 0
 IsShort n More = Unit {0}
 IsShort n (Whole bytes used) = length bytes ≤ n
 IsShort n (Bad kind used) = Unit {0}
@@ -41,7 +38,7 @@ waiting_short : (b : Bool) (n : ℕ) (h : Head) → (b ≡ false → IsShort n h
 waiting_short true n h short = tt
 waiting_short false n h short = short refl
 
-length_short : (field offset : ℕ) (adjust : ℤ) (strip : ℕ) (little : Bool) (greatest : ℕ) (s : List ℕ) → All (λ b. b < 256) s
+pub length_short : (field offset : ℕ) (adjust : ℤ) (strip : ℕ) (little : Bool) (greatest : ℕ) (s : List ℕ) → All (λ b. b < 256) s
     → IsShort (longest_length field offset adjust strip greatest) (length_head field offset adjust strip little greatest s)
 length_short field offset adjust strip little greatest s bytes =
     let f = take field (drop offset s) in
@@ -80,7 +77,7 @@ ending_found : (endings : List (List ℕ)) (s : List ℕ) → IsFound endings (l
 ending_found [] s = tt
 ending_found (m ∷ ms) s = ending_by (ends_with nat_eq s m) m ms (longest_ending ms s) (ending_found ms s)
 
-abbrev IsEnded : List (List ℕ) → Option (List ℕ × List ℕ) → Type 0
+abbrev pub IsEnded : List (List ℕ) → Option (List ℕ × List ℕ) → Type 0
 IsEnded endings None = Unit {0}
 IsEnded endings (Some (front, ending)) = length ending ≤ longest_mark endings
 
@@ -88,7 +85,7 @@ front_ended : (endings : List (List ℕ)) (front : List ℕ) (o : Option (List �
 front_ended endings front None found here later = later
 front_ended endings front (Some m) found here later = here
 
-first_found : (endings : List (List ℕ)) (front s : List ℕ) → IsEnded endings (first_ended endings front s)
+pub first_found : (endings : List (List ℕ)) (front s : List ℕ) → IsEnded endings (first_ended endings front s)
 first_found endings front [] = tt
 first_found endings front (x ∷ s) =
     front_ended endings (front ++ x ∷ []) (longest_ending endings (front ++ x ∷ [])) (first_ended endings (front ++ x ∷ []) s)
@@ -101,52 +98,16 @@ terminated_by false true greatest endings front ending found e = ltb-false great
 terminated_by false false greatest endings front ending found e =
     omega (arith, ltb-false greatest (length (take (length front - length ending) front)) e, length-take (length front - length ending) front)
 
-terminated_short : (strip : Bool) (greatest : ℕ) (endings : List (List ℕ)) (o : Option (List ℕ × List ℕ)) → IsEnded endings o → IsShort (longest_ended strip greatest endings) (terminated strip greatest o)
+pub terminated_short : (strip : Bool) (greatest : ℕ) (endings : List (List ℕ)) (o : Option (List ℕ × List ℕ)) → IsEnded endings o → IsShort (longest_ended strip greatest endings) (terminated strip greatest o)
 terminated_short strip greatest endings None found = tt
 terminated_short strip greatest endings (Some (front, ending)) found =
     terminated_by (nat_lt greatest (length (take (length front - length ending) front))) strip greatest endings front ending found refl
 
-fixed_short : (b : Bool) (size : ℕ) (s : List ℕ) → IsShort size (if b then More else Whole (take size s) size)
+pub fixed_short : (b : Bool) (size : ℕ) (s : List ℕ) → IsShort size (if b then More else Whole (take size s) size)
 fixed_short true size s = tt
 fixed_short false size s = omega (arith, length-take size s)
 
-head_short : (c : Codec) (s : List ℕ) → All (λ b. b < 256) s → IsShort (longest_of c) (head c s)
-head_short (Length field offset adjust strip little greatest) s bytes = length_short field offset adjust strip little greatest s bytes
-head_short (Line ending strip greatest) s bytes = terminated_short strip greatest (line_endings ending) (first_ended (line_endings ending) [] s) (first_found (line_endings ending) [] s)
-head_short (Delim list strip greatest) s bytes = terminated_short strip greatest list (first_ended list [] s) (first_found list [] s)
-head_short (Fixed size) s bytes = fixed_short (nat_lt (length s) size) size s
-
-none_within : (n : ℕ) → All (IsWithin n) []
-none_within n = λ k d within. absurd (omega arith)
-
-unit_short : (n at : ℕ) (h : Head) (behind : ℕ → List FramingUnit) → IsShort n h → ((u : ℕ) → All (IsWithin n) (behind u)) → All (IsWithin n) (unit_and at h behind)
-unit_short n at More behind short later = none_within n
-unit_short n at (Whole bytes used) behind short later = All-cons (IsWithin n) (FrameAt at bytes) (behind used) short (later used)
-unit_short n at (Bad kind used) behind short later = All-cons (IsWithin n) (FaultAt at kind) (behind used) tt (later used)
-
-units_short : (c : Codec) (m at : ℕ) (s : List ℕ) → All (λ b. b < 256) s → All (IsWithin (longest_of c)) (units_from c m at s)
-units_short c zero at s bytes = none_within (longest_of c)
-units_short c (suc m) at s bytes =
-    unit_short (longest_of c) at (head c s) (λ used. units_from c m (at + used) (drop used s)) (head_short c s bytes)
-    (λ u. units_short c m (at + u) (drop u s) (All-drop (λ b. b < 256) u s bytes))
-
-line_short : (b strip : Bool) (greatest at : ℕ) (endings : List (List ℕ)) (s : List ℕ) → nat_lt greatest (length s) ≡ b → IsWithin (longest_ended strip greatest endings) (if b then FaultAt at TooLong else FrameAt at s)
+pub line_short : (b strip : Bool) (greatest at : ℕ) (endings : List (List ℕ)) (s : List ℕ) → nat_lt greatest (length s) ≡ b → IsWithin (longest_ended strip greatest endings) (if b then FaultAt at TooLong else FrameAt at s)
 line_short true strip greatest at endings s e = tt
 line_short false true greatest at endings s e = ltb-false greatest (length s) e
 line_short false false greatest at endings s e = omega (arith, ltb-false greatest (length s) e)
-
-last_short : (c : Codec) (at : ℕ) (s : List ℕ) → IsWithin (longest_of c) (last_unit c at s)
-last_short (Length field offset adjust strip little greatest) at s = tt
-last_short (Line ending strip greatest) at s = line_short (nat_lt greatest (length s)) strip greatest at (line_endings ending) s refl
-last_short (Delim list strip greatest) at s = tt
-last_short (Fixed size) at s = tt
-
-end_short : (c : Codec) (at : ℕ) (s : List ℕ) → All (IsWithin (longest_of c)) (units_of_end c at s)
-end_short c at [] = none_within (longest_of c)
-end_short c at (x ∷ s) = All-cons (IsWithin (longest_of c)) (last_unit c at (x ∷ s)) [] (last_short c at (x ∷ s)) (none_within (longest_of c))
-
-pub bounded_frames : (c : Codec) (s : List ℕ) → All (λ b. b < 256) s → All (IsWithin (longest_of c)) (units c s) × All (IsWithin (longest_of c)) (ended c s)
-bounded_frames c s bytes = (
-  units_short c (length s) 0 s bytes,
-  All-append (IsWithin (longest_of c)) (units c s) (units_of_end c (length s - length (rest c s)) (rest c s)) (units_short c (length s) 0 s bytes) (end_short c (length s - length (rest c s)) (rest c s)),
-)

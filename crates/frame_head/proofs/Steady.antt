@@ -1,8 +1,9 @@
 -- Codecs whose heads stay, and what follows for the units of joined streams.
 use Rattle.std.proofs.Common.{◌≡◌, ℕ, zero, suc, ◌+◌, ◌-◌, ◌<◌, ◌≤◌, List, [], ◌∷◌, ◌++◌, length, drop, refl, ap, sym, ◌∙◌, arith, length-append, length-drop, drop-drop}
 use Rattle.frame_head.specs.declared.codecs.Codec.{Codec}
-use Rattle.frame_head.specs.Heads.{Head, More, Whole, Bad, UsesAtLeast, head}
-use Rattle.frame_head.specs.Units.{FrameAt, FaultAt, unit_and, units_from, left_by, rest_after, overrun_by, overrun_after}
+use Rattle.frame_head.specs.Heads.{Head, More, Whole, Bad, UsesAtLeast, FrameAt, FaultAt}
+use Rattle.frame_head.specs.Codecs.{head}
+use Rattle.frame_head.specs.Units.{unit_and, units_from, left_by, rest_after, overrun_by, overrun_after}
 use Rattle.frame_head.proofs.Lists.{drop_both}
 
 -- what the laws on units need to know of a codec

@@ -1,9 +1,9 @@
 -- How long frames are.
 use Rattle.std.specs.Prelude.{◌≡◌, ℕ, ◌<◌, ◌≤◌, List, None, All, length}
 use Rattle.frame_head.specs.declared.codecs.Codec.{Codec}
-use Rattle.frame_head.specs.Checks.{fault_of}
-use Rattle.frame_head.specs.Units.{FramingUnit, FrameAt, FaultAt, units, ended}
-use Rattle.frame_head.specs.Longest.{longest_of}
+use Rattle.frame_head.specs.Codecs.{fault_of, longest_of}
+use Rattle.frame_head.specs.Heads.{FramingUnit, FrameAt, FaultAt}
+use Rattle.frame_head.specs.Units.{units, ended}
 
 -- a unit that is no frame of more than `n` bytes
 abbrev pub IsWithin : ℕ → FramingUnit → Type 0

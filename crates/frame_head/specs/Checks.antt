@@ -1,8 +1,6 @@
--- Which codecs are refused.
+-- Why the parts of a codec are refused.
 use Rattle.std.specs.Prelude.{ℕ, ◌+◌, Bool, ◌||◌, ◌==◌, not, List, Option, Some, None, length, nat_lt, if◌then◌else◌}
 use Rattle.std.specs.List.{list_any}
-use Rattle.frame_head.specs.declared.codecs.Codec.{Codec}
-use Rattle.frame_head.specs.declared.codecs.Codec.TheVariants.{Length, Line, Delim, Fixed}
 use Rattle.frame_head.specs.declared.checks.CodecFault.{CodecFault}
 use Rattle.frame_head.specs.declared.checks.CodecFault.TheVariants.{BadField, ZeroLen, MaxOver, OffsetOver, NoDelim, DelimOver}
 
@@ -33,10 +31,3 @@ marks_fault list max =
     (first_fault (size_fault max)
     (first_fault (fault_if (length list == 0) NoDelim)
     (fault_if (nat_lt 8 (length list) || list_any (λ m. nat_lt 64 (length m)) list) DelimOver)))
-
--- why a codec is refused, if it is
-abbrev pub fault_of : Codec → Option CodecFault
-fault_of (Length field offset adjust strip little max) = length_fault field offset max
-fault_of (Line ending strip max) = size_fault max
-fault_of (Delim list strip max) = marks_fault list max
-fault_of (Fixed size) = size_fault size

@@ -4,7 +4,8 @@ use Rattle.frame_head.specs.declared.codecs.Codec.{Codec}
 use Rattle.frame_head.specs.declared.codecs.Codec.TheVariants.{Length, Line, Delim, Fixed}
 use Rattle.frame_head.specs.declared.codecs.LineEnd.TheVariants.{Any, Lf, Crlf}
 use Rattle.frame_head.specs.declared.codecs.FaultKind.TheVariants.{TooSmall, TooLong, StripOver, Cut}
-use Rattle.frame_head.specs.Units.{FrameAt, FaultAt, ended}
+use Rattle.frame_head.specs.Heads.{FrameAt, FaultAt}
+use Rattle.frame_head.specs.Units.{ended}
 
 -- a codec with a field of so many bytes at the beginning, most weighty byte first
 abbrev pub by_field : ℕ → ℤ → ℕ → ℕ → Codec

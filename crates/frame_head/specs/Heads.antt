@@ -1,11 +1,8 @@
--- What a stream begins with.
-use Rattle.std.specs.Prelude.{ℕ, ◌+◌, ◌-◌, ◌≤◌, ℤ, Bool, List, [], Option, Some, None, length, take, drop, nat_lt, if◌then◌else◌}
-use Rattle.frame_head.specs.declared.codecs.Codec.{Codec}
-use Rattle.frame_head.specs.declared.codecs.Codec.TheVariants.{Length, Line, Delim, Fixed}
+-- What a stream can begin with, and what can stand in it: the words in which a codec's case is said.
+use Rattle.std.specs.Prelude.{ℕ, ◌+◌, ◌-◌, ◌≤◌, ℤ, Bool, List, Option, Some, None, length, take, drop, nat_lt, if◌then◌else◌}
 use Rattle.frame_head.specs.declared.codecs.FaultKind.{FaultKind}
 use Rattle.frame_head.specs.declared.codecs.FaultKind.TheVariants.{TooSmall, TooLong, StripOver}
 use Rattle.frame_head.specs.Numbers.{number_in_order, adjusted}
-use Rattle.frame_head.specs.Endings.{line_endings, first_ended}
 
 -- more bytes are needed; or a frame of these bytes is there, or a fault, and so many bytes are used by it, which a fault may use before they are there
 pub data Head : Type 0 where
@@ -18,6 +15,11 @@ abbrev pub UsesAtLeast : ℕ → Head → Type 0
 UsesAtLeast n More = Unit {0}
 UsesAtLeast n (Whole bytes used) = n ≤ used
 UsesAtLeast n (Bad kind used) = n ≤ used
+
+-- a frame with its bytes, or a fault, and the offset at which it begins
+pub data FramingUnit : Type 0 where
+  FrameAt : ℕ → List ℕ → FramingUnit
+  FaultAt : ℕ → FaultKind → FramingUnit
 
 -- a frame that ends at `t`, of which the first `strip` bytes aren't handed on
 abbrev pub sized : ℕ → ℕ → ℕ → List ℕ → Head
@@ -45,10 +47,3 @@ terminated strip max (Some (front, ending)) =
     if nat_lt max (length content) then Bad TooLong (length front)
     else if strip then Whole content (length front)
     else Whole front (length front)
-
--- the first unit of a stream
-abbrev pub head : Codec → List ℕ → Head
-head (Length field offset adjust strip little max) s = length_head field offset adjust strip little max s
-head (Line ending strip max) s = terminated strip max (first_ended (line_endings ending) [] s)
-head (Delim list strip max) s = terminated strip max (first_ended list [] s)
-head (Fixed size) s = if nat_lt (length s) size then More else Whole (take size s) size

@@ -2,19 +2,14 @@
 use Rattle.std.specs.Prelude.{◌≡◌, ℕ, ◌<◌, List, [], ◌∷◌, ◌++◌, None, MatchOption, length, take, drop, flat_map}
 use Rattle.std.specs.List.{Contains}
 use Rattle.frame_head.specs.declared.codecs.Codec.{Codec}
-use Rattle.frame_head.specs.declared.codecs.Codec.TheVariants.{Length}
-use Rattle.frame_head.specs.Checks.{fault_of}
+use Rattle.frame_head.specs.Codecs.{head, fault_of}
 use Rattle.frame_head.specs.Endings.{NoneEnds, IsFirstEnding, first_ended}
-use Rattle.frame_head.specs.Heads.{More, head}
-use Rattle.frame_head.specs.Units.{FramingUnit, units, ended}
+use Rattle.frame_head.specs.Heads.{More, FramingUnit}
+use Rattle.frame_head.specs.Units.{units, ended}
 
 -- `longer` is `shorter` with something added at its end
 abbrev pub Extends : List FramingUnit → List FramingUnit → Type 0
 Extends shorter longer = (added : List FramingUnit) × (longer ≡ shorter ++ added)
-
-abbrev pub IsLength : Codec → Type 0
-IsLength (Length field offset adjust strip little max) = Unit {0}
-IsLength _ = ⊥
 
 -- more input changes no unit that is there
 abbrev pub StableUnits : Type 0

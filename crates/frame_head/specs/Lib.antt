@@ -1,10 +1,11 @@
 pub mod Numbers
 pub mod Endings
 pub mod Heads
-pub mod Units
 pub mod Checks
-pub mod Outs
 pub mod Longest
+pub mod Codecs
+pub mod Units
+pub mod Outs
 pub mod Bounds
 pub mod Laws
 pub mod Examples

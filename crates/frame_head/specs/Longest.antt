@@ -1,8 +1,5 @@
--- The longest frame of a codec.
+-- How long a frame can be, by the parts of a codec.
 use Rattle.std.specs.Prelude.{ℕ, ◌+◌, ◌-◌, ◌^◌, ℤ, Bool, List, [], ◌∷◌, Option, Some, None, length, min, max, if◌then◌else◌}
-use Rattle.frame_head.specs.declared.codecs.Codec.{Codec}
-use Rattle.frame_head.specs.declared.codecs.Codec.TheVariants.{Length, Line, Delim, Fixed}
-use Rattle.frame_head.specs.Endings.{line_endings}
 use Rattle.frame_head.specs.Numbers.{adjusted}
 
 -- the greatest number that a field of so many bytes can hold
@@ -26,10 +23,3 @@ longest_length field offset adjust strip greatest =
 -- a frame of at most `greatest` bytes, with its ending where that isn't stripped
 abbrev pub longest_ended : Bool → ℕ → List (List ℕ) → ℕ
 longest_ended strip greatest endings = if strip then greatest else greatest + longest_mark endings
-
--- the length of the longest frame that a codec can give
-abbrev pub longest_of : Codec → ℕ
-longest_of (Length field offset adjust strip little greatest) = longest_length field offset adjust strip greatest
-longest_of (Line ending strip greatest) = longest_ended strip greatest (line_endings ending)
-longest_of (Delim list strip greatest) = longest_ended strip greatest list
-longest_of (Fixed size) = size

@@ -1,15 +1,8 @@
 -- The frames and faults of a stream.
-use Rattle.std.specs.Prelude.{ℕ, zero, suc, ◌+◌, ◌-◌, List, [], ◌∷◌, ◌++◌, length, drop, nat_lt, if◌then◌else◌}
+use Rattle.std.specs.Prelude.{ℕ, zero, suc, ◌+◌, ◌-◌, List, [], ◌∷◌, ◌++◌, length, drop}
 use Rattle.frame_head.specs.declared.codecs.Codec.{Codec}
-use Rattle.frame_head.specs.declared.codecs.Codec.TheVariants.{Length, Line, Delim, Fixed}
-use Rattle.frame_head.specs.declared.codecs.FaultKind.{FaultKind}
-use Rattle.frame_head.specs.declared.codecs.FaultKind.TheVariants.{TooLong, Cut}
-use Rattle.frame_head.specs.Heads.{Head, More, Whole, Bad, head}
-
--- a frame with its bytes, or a fault, and the offset at which it begins
-pub data FramingUnit : Type 0 where
-  FrameAt : ℕ → List ℕ → FramingUnit
-  FaultAt : ℕ → FaultKind → FramingUnit
+use Rattle.frame_head.specs.Heads.{Head, More, Whole, Bad, FramingUnit, FrameAt, FaultAt}
+use Rattle.frame_head.specs.Codecs.{head, last_unit}
 
 -- the unit of a head at the offset `at`, and the units behind what it used
 abbrev pub unit_and : ℕ → Head → (ℕ → List FramingUnit) → List FramingUnit
@@ -55,13 +48,6 @@ overrun_after codec (suc n) s = overrun_by s (head codec s) (λ used. overrun_af
 -- how many bytes behind the end of a stream its last fault uses
 abbrev pub overrun : Codec → List ℕ → ℕ
 overrun codec s = overrun_after codec (length s) s
-
--- the last unit of a stream that ends with bytes which are no unit yet
-abbrev pub last_unit : Codec → ℕ → List ℕ → FramingUnit
-last_unit (Line ending strip max) at s = if nat_lt max (length s) then FaultAt at TooLong else FrameAt at s
-last_unit (Length field offset adjust strip little max) at s = FaultAt at Cut
-last_unit (Delim list strip max) at s = FaultAt at Cut
-last_unit (Fixed size) at s = FaultAt at Cut
 
 -- what the end of a stream adds, where `s` is its rest and stands at the offset `at`
 abbrev pub units_of_end : Codec → ℕ → List ℕ → List FramingUnit

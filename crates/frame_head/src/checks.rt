@@ -1,7 +1,7 @@
 ghost use Rattle.std.specs.Prelude.{◌≡◌, Some, None, MatchResult};
-ghost use Rattle.frame_head.specs.Checks.{fault_of, size_fault, marks_fault, length_fault};
+ghost use Rattle.frame_head.specs.Checks.{size_fault, marks_fault, length_fault};
 
-use crate::codecs::{Codec, Marks};
+use crate::marks::Marks;
 use thiserror::Error;
 
 /// Why a codec is refused. Its text is the variant's name.
@@ -33,24 +33,7 @@ pub(crate) const GREATEST_MARK: usize = 64;
 
 const MOST_MARKS: usize = 8;
 
-/// Refuses a codec by the first fault that holds for it, in the order of `CodecFault`. It is O(number of delimiters).
-pub fn check(codec: &Codec) -> Result<(), CodecFault>
-    ensures { MatchResult result (λ _. fault_of codec.now ≡ None) (λ f. fault_of codec.now ≡ Some f) }
-{
-    match codec {
-        Codec::Length {
-            field,
-            offset,
-            max,
-            ..
-        } => check_length(*field, *offset, *max),
-        Codec::Line { max, .. } => check_size(*max),
-        Codec::Delim { list, max, .. } => check_marks(list, *max),
-        Codec::Fixed { size } => check_size(*size),
-    }
-}
-
-fn check_size(n: u64) -> Result<(), CodecFault>
+pub(crate) fn check_size(n: u64) -> Result<(), CodecFault>
     ensures { MatchResult result (λ _. size_fault n ≡ None) (λ f. size_fault n ≡ Some f) }
 {
     if n == 0 {
@@ -62,7 +45,7 @@ fn check_size(n: u64) -> Result<(), CodecFault>
     Ok(())
 }
 
-fn check_length(field: u8, offset: u32, max: u64) -> Result<(), CodecFault>
+pub(crate) fn check_length(field: u8, offset: u32, max: u64) -> Result<(), CodecFault>
     ensures { MatchResult result (λ _. length_fault field offset max ≡ None)
         (λ f. length_fault field offset max ≡ Some f) }
 {
@@ -76,7 +59,7 @@ fn check_length(field: u8, offset: u32, max: u64) -> Result<(), CodecFault>
     Ok(())
 }
 
-fn check_marks(list: &Marks, max: u64) -> Result<(), CodecFault>
+pub(crate) fn check_marks(list: &Marks, max: u64) -> Result<(), CodecFault>
     ensures { MatchResult result (λ _. marks_fault list.now max ≡ None) (λ f. marks_fault list.now max ≡ Some f) }
 {
     if list.has_empty() {

@@ -1,45 +1,9 @@
 //! Equal values of their own.
 ghost use Rattle.std.specs.Prelude.{◌≡◌, IfOk};
 
-use crate::codecs::{Codec, Mark, Marks};
+use crate::marks::{Mark, Marks};
 use crate::out::Out;
 use std::alloc::{AllocError, Global};
-
-impl Codec {
-    /// An equal codec. It allocates for delimiters alone, once for each and once for their list.
-    pub fn copy(&self, alloc: Global) -> Result<Codec, AllocError>
-        ensures { IfOk result (λ c. c ≡ self.now) }
-    {
-        Ok(match self {
-            Codec::Length {
-                field,
-                offset,
-                adjust,
-                strip,
-                little,
-                max,
-            } => Codec::Length {
-                field: *field,
-                offset: *offset,
-                adjust: *adjust,
-                strip: *strip,
-                little: *little,
-                max: *max,
-            },
-            Codec::Line { ending, strip, max } => Codec::Line {
-                ending: *ending,
-                strip: *strip,
-                max: *max,
-            },
-            Codec::Delim { list, strip, max } => Codec::Delim {
-                list: copy_marks(alloc, list)?,
-                strip: *strip,
-                max: *max,
-            },
-            Codec::Fixed { size } => Codec::Fixed { size: *size },
-        })
-    }
-}
 
 impl Out {
     /// An equal way of writing frames. It allocates for a delimiter alone.
@@ -66,7 +30,7 @@ fn copy_mark(alloc: Global, mark: &Mark) -> Result<Mark, AllocError>
     Ok(Mark::new(Vec::from_slice(alloc, mark.bytes())?))
 }
 
-fn copy_marks(alloc: Global, marks: &Marks) -> Result<Marks, AllocError>
+pub(crate) fn copy_marks(alloc: Global, marks: &Marks) -> Result<Marks, AllocError>
     ensures { IfOk result (λ m. m ≡ marks.now) }
 {
     let mut list = Vec::with_capacity(alloc, marks.len())?;

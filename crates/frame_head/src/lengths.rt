@@ -1,33 +1,14 @@
 ghost use Rattle.std.specs.Prelude.{◌≡◌, ◌+◌, ◌^◌, ◌<◌, ◌≤◌, Some, None, true};
-ghost use Rattle.frame_head.specs.Checks.{fault_of, is_field};
+ghost use Rattle.frame_head.specs.Checks.{is_field};
 ghost use Rattle.frame_head.specs.Endings.{line_endings};
 ghost use Rattle.frame_head.specs.Numbers.{adjusted};
-ghost use Rattle.frame_head.specs.Longest.{longest_ended, longest_length, longest_mark, longest_of};
+ghost use Rattle.frame_head.specs.Longest.{longest_ended, longest_length, longest_mark};
 ghost use Rattle.frame_head.specs.Longest.{longest_up_to, most_in_field};
 
-use crate::codecs::{Codec, LineEnd, Marks};
+use crate::codecs::LineEnd;
+use crate::marks::Marks;
 
-/// The length of the longest frame that a codec can give, in bytes. It takes no memory and is O(number of delimiters).
-pub fn longest(codec: &Codec) -> u64
-    requires { fault_of codec.now ≡ None }
-    ensures { result ≡ longest_of codec.now }
-{
-    match codec {
-        Codec::Length {
-            field,
-            offset,
-            adjust,
-            strip,
-            max,
-            ..
-        } => longest_by_length(*field, *offset, *adjust, *strip, *max),
-        Codec::Line { ending, strip, max } => longest_line(*ending, *strip, *max),
-        Codec::Delim { list, strip, max } => longest_delimited(list, *strip, *max),
-        Codec::Fixed { size } => *size,
-    }
-}
-
-fn longest_by_length(field: u8, offset: u32, adjust: i32, strip: u32, max: u64) -> u64
+pub(crate) fn longest_by_length(field: u8, offset: u32, adjust: i32, strip: u32, max: u64) -> u64
     requires { is_field field ≡ true }
     ensures { result ≡ longest_length field offset adjust strip max }
 {
@@ -79,7 +60,7 @@ fn with_adjustment(value: u128, adjust: i32) -> Option<u128>
     Some(value - size)
 }
 
-fn longest_line(ending: LineEnd, strip: bool, max: u64) -> u64
+pub(crate) fn longest_line(ending: LineEnd, strip: bool, max: u64) -> u64
     requires { max ≤ 16777216 }
     ensures { result ≡ longest_ended strip max (line_endings ending) }
 {
@@ -93,7 +74,7 @@ fn longest_line(ending: LineEnd, strip: bool, max: u64) -> u64
     }
 }
 
-fn longest_delimited(list: &Marks, strip: bool, max: u64) -> u64
+pub(crate) fn longest_delimited(list: &Marks, strip: bool, max: u64) -> u64
     requires max { max ≤ 16777216 }
     requires mark { longest_mark list.now ≤ 64 }
     ensures { result ≡ longest_ended strip max list.now }

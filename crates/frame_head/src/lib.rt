@@ -8,13 +8,15 @@ mod codecs;
 mod copies;
 pub mod laws;
 mod lengths;
+mod marks;
 mod out;
 #[cfg(test)]
 mod out_tests;
 #[cfg(test)]
 mod tests;
 
-pub use checks::{CodecFault, check};
-pub use codecs::{Codec, FaultKind, LineEnd, Mark, Marks};
-pub use lengths::{longest, most_in_field};
+pub use checks::CodecFault;
+pub use codecs::{Codec, FaultKind, LineEnd, check, longest};
+pub use lengths::most_in_field;
+pub use marks::{Mark, Marks};
 pub use out::{Out, check_out};

@@ -2,7 +2,7 @@ ghost use Rattle.std.specs.Prelude.{◌≡◌, Some, None, MatchResult};
 ghost use Rattle.frame_head.specs.Outs.{field_fault, mark_fault, out_fault};
 
 use crate::checks::{CodecFault, GREATEST_MARK};
-use crate::codecs::Mark;
+use crate::marks::Mark;
 
 /// How frames are written one after another, so that a reader can tell them apart.
 #[derive(Debug, Drop)]

@@ -4,9 +4,9 @@ use Rattle.std.proofs.Math.Seq.{drop-nil}
 use Rattle.std.proofs.lemmas.List.{drop-take}
 use Rattle.std.proofs.lemmas.Bool.{ltb-true, cases_lt}
 use Rattle.frame_head.specs.declared.codecs.FaultKind.TheVariants.{TooSmall, TooLong, StripOver, Cut, BadLine}
-use Rattle.frame_head.specs.Checks.{fault_of}
+use Rattle.frame_head.specs.Codecs.{head, fault_of}
 use Rattle.frame_head.specs.Numbers.{number_in_order, adjusted}
-use Rattle.frame_head.specs.Heads.{Head, More, Whole, Bad, sized, measured, head}
+use Rattle.frame_head.specs.Heads.{Head, More, Whole, Bad, sized, measured}
 use Rattle.frame_head.proofs.Lists.{drop_both}
 use Rattle.frame_head.proofs.Length.{same_field, some_field}
 use Rattle.frame_rule.specs.declared.scanner.Scan.{Scan}

@@ -1,19 +1,16 @@
 -- What a scanner of length fields has seen of a frame.
 use Rattle.std.specs.Prelude.{◌≡◌, ℕ, ◌+◌, ◌-◌, ◌<◌, ◌≤◌, List, ◌++◌, Option, Some, None, length, take, drop, nat_lt, if◌then◌else◌}
 use Rattle.frame_head.specs.declared.codecs.Codec.{Codec}
-use Rattle.frame_head.specs.declared.codecs.Codec.TheVariants.{Length, Fixed}
+use Rattle.frame_head.specs.declared.codecs.Codec.TheVariants.{Length}
 use Rattle.frame_head.specs.declared.codecs.FaultKind.TheVariants.{TooSmall, TooLong, StripOver}
 use Rattle.frame_head.specs.Numbers.{number_in_order, adjusted}
-use Rattle.frame_head.specs.Heads.{Bad, head}
+use Rattle.frame_head.specs.Heads.{Bad}
+use Rattle.frame_head.specs.Codecs.{head}
 use Rattle.frame_rule.specs.declared.scanner.Scan.{Scan}
 use Rattle.frame_rule.specs.declared.scanner.Scan.TheVariants.{Open, Frame}
 use Rattle.frame_length.specs.declared.length_scanner.Header.{Header}
 use Rattle.frame_length.specs.declared.length_scanner.Aim.{Aim}
 use Rattle.frame_length.specs.declared.length_scanner.Aim.TheVariants.{Short, Wrong, At}
-
-abbrev pub IsFixed : Codec → Type 0
-IsFixed (Fixed size) = Unit {0}
-IsFixed _ = ⊥
 
 abbrev pub codec_by : Header → Codec
 codec_by h = Length h.field h.offset h.adjust h.strip h.little h.max

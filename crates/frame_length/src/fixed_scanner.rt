@@ -10,8 +10,7 @@ pub struct FixedScanner {
 impl Scanner for FixedScanner {
     ghost use Rattle.std.specs.Prelude.{◌≡◌, ◌<◌, None, length};
     ghost use Rattle.frame_head.specs.declared.codecs.Codec.TheVariants.{Fixed};
-    ghost use Rattle.frame_head.specs.Checks.{fault_of};
-    ghost use Rattle.frame_length.specs.Fields.{IsFixed};
+    ghost use Rattle.frame_head.specs.Codecs.{IsFixed, fault_of};
 
     ghost codec_of = { λ s. Fixed s.size };
 

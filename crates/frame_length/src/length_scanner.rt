@@ -38,8 +38,7 @@ pub(crate) enum Aim {
 
 impl Scanner for LengthScanner {
     ghost use Rattle.std.specs.Prelude.{◌≡◌, None};
-    ghost use Rattle.frame_head.specs.Checks.{fault_of};
-    ghost use Rattle.frame_head.specs.Laws.{IsLength};
+    ghost use Rattle.frame_head.specs.Codecs.{IsLength, fault_of};
     ghost use Rattle.frame_length.specs.Fields.{Saw, codec_by};
 
     ghost codec_of = { λ s. codec_by s.header };

@@ -9,7 +9,8 @@ use Rattle.frame_head.specs.declared.codecs.LineEnd.{LineEnd}
 use Rattle.frame_head.specs.declared.codecs.LineEnd.TheVariants.{Any, Lf, Crlf}
 use Rattle.frame_head.specs.declared.codecs.Codec.TheVariants.{Line}
 use Rattle.frame_head.specs.declared.codecs.FaultKind.TheVariants.{TooLong}
-use Rattle.frame_head.specs.Units.{FrameAt, FaultAt, last_unit}
+use Rattle.frame_head.specs.Heads.{FrameAt, FaultAt}
+use Rattle.frame_head.specs.Codecs.{last_unit}
 use Rattle.frame_head.specs.Endings.{line_endings, longest_ending, longer}
 use Rattle.frame_rule.specs.Scanning.{IsFault}
 use Rattle.frame_rule.proofs.Seeks.{Silent, to_byte}

@@ -1,14 +1,8 @@
 -- Where lines end.
 use Rattle.std.specs.Prelude.{ℕ, Bool, List, [], ◌∷◌, Option, Some, None, if◌then◌else◌, nat_eq}
 use Rattle.std.specs.List.{ends_with}
-use Rattle.frame_head.specs.declared.codecs.Codec.{Codec}
-use Rattle.frame_head.specs.declared.codecs.Codec.TheVariants.{Line}
 use Rattle.frame_head.specs.declared.codecs.LineEnd.{LineEnd}
 use Rattle.frame_head.specs.declared.codecs.LineEnd.TheVariants.{Any, Lf, Crlf}
-
-abbrev pub IsLine : Codec → Type 0
-IsLine (Line ending strip max) = Unit {0}
-IsLine _ = ⊥
 
 -- whether the last of some bytes is a carriage return
 abbrev pub ends_in_return : List ℕ → Bool

@@ -21,10 +21,10 @@ const LONGEST_ENDING: usize = 2;
 impl Scanner for LineScanner {
     ghost use Rattle.std.specs.Prelude.{◌≡◌, None};
     ghost use Rattle.frame_head.specs.declared.codecs.Codec.TheVariants.{Line};
-    ghost use Rattle.frame_head.specs.Checks.{fault_of};
+    ghost use Rattle.frame_head.specs.Codecs.{IsLine, fault_of};
     ghost use Rattle.frame_head.specs.Endings.{line_endings};
     ghost use Rattle.frame_rule.specs.Endings.{Unended};
-    ghost use Rattle.frame_line.specs.Lines.{IsLine, ends_in_return};
+    ghost use Rattle.frame_line.specs.Lines.{ends_in_return};
 
     ghost codec_of = { λ s. Line s.ending s.strip s.max };
 

@@ -1,6 +1,6 @@
 -- Units that are added in turn.
 use Rattle.std.proofs.Common.{List, [], ◌++◌, ap, sym, ◌∙◌, append_assoc, append-nil}
-use Rattle.frame_head.specs.Units.{FramingUnit}
+use Rattle.frame_head.specs.Heads.{FramingUnit}
 use Rattle.frame_rule.specs.declared.unit.FrameUnit.{FrameUnit}
 use Rattle.frame_rule.specs.Units.{Grew, units_of}
 use Rattle.frame_rule.proofs.Passing.{units_of-append}

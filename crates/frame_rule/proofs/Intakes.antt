@@ -10,8 +10,8 @@ use Rattle.iobuf_chain.specs.Copies.{WithData, CopiesNoData, IsHeavy, IsStout}
 use Rattle.iobuf_chain.proofs.Accounts.{held_by-append}
 use Rattle.iobuf_chain.proofs.Copied.{each_behind, each_map, own_numbers, heavy_is_stout}
 use Rattle.frame_head.specs.declared.codecs.Codec.{Codec}
-use Rattle.frame_head.specs.Checks.{fault_of}
-use Rattle.frame_head.specs.Units.{units, last_unit}
+use Rattle.frame_head.specs.Codecs.{last_unit, fault_of}
+use Rattle.frame_head.specs.Units.{units}
 use Rattle.frame_rule.specs.declared.haul.Haul.{Haul}
 use Rattle.frame_rule.specs.declared.progress.Progress.{Progress}
 use Rattle.frame_rule.specs.declared.unit.FrameUnit.{FrameUnit}

@@ -9,8 +9,9 @@ use Rattle.iobuf_chain.proofs.Bytes.{bytes_of-append}
 use Rattle.iobuf_chain.proofs.Lists.{drop_there}
 use Rattle.frame_head.specs.declared.codecs.Codec.{Codec}
 use Rattle.frame_head.specs.declared.codecs.FaultKind.{FaultKind}
-use Rattle.frame_head.specs.Checks.{fault_of}
-use Rattle.frame_head.specs.Units.{FramingUnit, FrameAt, FaultAt, rest}
+use Rattle.frame_head.specs.Codecs.{fault_of}
+use Rattle.frame_head.specs.Heads.{FramingUnit, FrameAt, FaultAt}
+use Rattle.frame_head.specs.Units.{rest}
 use Rattle.frame_rule.specs.declared.scanner.Scan.{Scan}
 use Rattle.frame_rule.specs.declared.scanner.Scan.TheVariants.{Open, Hopeless, Frame, Fault}
 use Rattle.frame_rule.specs.declared.progress.Progress.{Progress}

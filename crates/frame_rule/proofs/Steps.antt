@@ -3,15 +3,15 @@ use Rattle.std.proofs.Common.{◌≡◌, ℕ, zero, suc, ◌+◌, ◌-◌, ◌<�
 use Rattle.buffer_model.specs.Segment.{bytes_of}
 use Rattle.frame_head.specs.declared.codecs.Codec.{Codec}
 use Rattle.frame_head.specs.declared.codecs.FaultKind.{FaultKind}
-use Rattle.frame_head.specs.Checks.{fault_of}
-use Rattle.frame_head.specs.Heads.{Head, More, Whole, Bad, UsesAtLeast, head}
-use Rattle.frame_head.specs.Units.{FramingUnit, FrameAt, FaultAt, unit_and, left_by, overrun_by, units, rest, overrun, ended, units_of_end, last_unit}
+use Rattle.frame_head.specs.Codecs.{head, last_unit, fault_of, most_kept}
+use Rattle.frame_head.specs.Heads.{Head, More, Whole, Bad, UsesAtLeast, FramingUnit, FrameAt, FaultAt}
+use Rattle.frame_head.specs.Units.{unit_and, left_by, overrun_by, units, rest, overrun, ended, units_of_end}
 use Rattle.frame_head.proofs.Steady.{Steady, shorter, rest_open}
-use Rattle.frame_head.proofs.Passed.{passed_steady}
+use Rattle.frame_head.proofs.Cases.{passed_steady}
 use Rattle.frame_head.proofs.Cutting.{absorbed, passed, extends}
 use Rattle.frame_rule.specs.declared.scanner.Scan.{Scan}
 use Rattle.frame_rule.specs.declared.scanner.Scan.TheVariants.{Open, Hopeless, Frame, Fault}
-use Rattle.frame_rule.specs.Scanning.{IsNoFrame, IsFault, IsHopeless, Scanned, inner, last_of, most_kept}
+use Rattle.frame_rule.specs.Scanning.{IsNoFrame, IsFault, IsHopeless, Scanned, inner, last_of}
 use Rattle.frame_rule.specs.Framing.{Framing, StandsFor, Took, Halted, fresh}
 
 -- what the end adds where nothing is open, and where something is

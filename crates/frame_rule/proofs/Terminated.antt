@@ -3,8 +3,8 @@ use Rattle.std.proofs.Common.{◌≡◌, ℕ, ◌+◌, ◌-◌, ◌<◌, ◌≤�
 use Rattle.std.specs.List.{Contains}
 use Rattle.frame_head.specs.declared.codecs.Codec.{Codec}
 use Rattle.frame_head.specs.declared.codecs.FaultKind.TheVariants.{TooLong}
-use Rattle.frame_head.specs.Heads.{Head, More, Whole, Bad, terminated, head}
-use Rattle.frame_head.specs.Units.{last_unit}
+use Rattle.frame_head.specs.Heads.{Head, More, Whole, Bad, terminated}
+use Rattle.frame_head.specs.Codecs.{head, last_unit}
 use Rattle.frame_head.specs.Endings.{first_ended}
 use Rattle.frame_head.proofs.Ended.{none_then, found_longer}
 use Rattle.frame_rule.specs.declared.scanner.Scan.TheVariants.{Frame, Fault}

@@ -2,11 +2,13 @@
 use Rattle.std.specs.Prelude.{◌≡◌, ℕ, ◌+◌, ◌<◌, ◌≤◌, Bool, true, false, List, [], ◌++◌, length, take, drop}
 use Rattle.buffer_model.specs.Segment.{Segment, bytes_of}
 use Rattle.frame_head.specs.declared.codecs.Codec.{Codec}
-use Rattle.frame_head.specs.Units.{FramingUnit, units, rest, overrun}
+use Rattle.frame_head.specs.Heads.{FramingUnit}
+use Rattle.frame_head.specs.Units.{units, rest, overrun}
 use Rattle.storage.specs.declared.release.NoOwner.{NoOwner}
 use Rattle.frame_rule.specs.declared.progress.Progress.{Progress}
 use Rattle.frame_rule.specs.declared.unit.FrameUnit.{FrameUnit}
-use Rattle.frame_rule.specs.Scanning.{IsHopeless, most_kept}
+use Rattle.frame_head.specs.Codecs.{most_kept}
+use Rattle.frame_rule.specs.Scanning.{IsHopeless}
 use Rattle.frame_rule.specs.Units.{units_of}
 use Rattle.frame_rule.specs.Decoding.{Decoding}
 

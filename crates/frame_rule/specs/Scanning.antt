@@ -1,23 +1,15 @@
 -- What a scan tells of open bytes and those that come behind them.
 use Rattle.std.specs.Prelude.{◌≡◌, ℕ, ◌+◌, ◌-◌, ◌≤◌, List, [], ◌++◌, Option, Some, None, length, take, drop}
 use Rattle.frame_head.specs.declared.codecs.Codec.{Codec}
-use Rattle.frame_head.specs.declared.codecs.Codec.TheVariants.{Length, Line, Delim, Fixed}
 use Rattle.frame_head.specs.declared.codecs.FaultKind.{FaultKind}
-use Rattle.frame_head.specs.Heads.{Head, More, Whole, Bad, head}
-use Rattle.frame_head.specs.Units.{FramingUnit, FrameAt, FaultAt, last_unit}
+use Rattle.frame_head.specs.Heads.{Head, More, Whole, Bad, FramingUnit, FrameAt, FaultAt}
+use Rattle.frame_head.specs.Codecs.{head, last_unit, most_kept}
 use Rattle.frame_rule.specs.declared.scanner.Scan.{Scan}
 use Rattle.frame_rule.specs.declared.scanner.Scan.TheVariants.{Open, Hopeless, Frame, Fault}
 
 -- a list without its first `front` and its last `back`
 abbrev pub inner : ℕ → ℕ → List ℕ → List ℕ
 inner front back s = drop front (take (length s - back) s)
-
--- how many bytes of an open unit are kept at most
-abbrev pub most_kept : Codec → ℕ
-most_kept (Length field offset adjust strip little max) = max
-most_kept (Line ending strip max) = max + 2
-most_kept (Delim list strip max) = max + 64
-most_kept (Fixed size) = size
 
 -- a head that is no frame
 abbrev pub IsNoFrame : Head → Type 0

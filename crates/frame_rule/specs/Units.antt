@@ -2,7 +2,7 @@
 use Rattle.std.specs.Prelude.{◌≡◌, List, [], ◌∷◌, ◌++◌, map}
 use Rattle.storage.specs.declared.release.NoOwner.{NoOwner}
 use Rattle.buffer_model.specs.Segment.{Segment, bytes_of}
-use Rattle.frame_head.specs.Units.{FramingUnit, FrameAt, FaultAt}
+use Rattle.frame_head.specs.Heads.{FramingUnit, FrameAt, FaultAt}
 use Rattle.frame_rule.specs.declared.unit.FrameUnit.{FrameUnit}
 use Rattle.frame_rule.specs.declared.unit.FrameUnit.TheVariants.{Frame, Fault}
 

@@ -6,7 +6,7 @@ ghost use Rattle.buffer_model.specs.Segment.{Segment, bytes_of, whole_window};
 ghost use Rattle.buffer_model.specs.Stake.{KeepsTotalsBelow};
 ghost use Rattle.iobuf_chain.specs.Accounts.{answered, held_by};
 ghost use Rattle.iobuf_chain.specs.Copies.{IsHeavy, WithData};
-ghost use Rattle.frame_head.specs.Units.{FrameAt};
+ghost use Rattle.frame_head.specs.Heads.{FrameAt};
 ghost use Rattle.frame_rule.specs.Scanning.{inner};
 ghost use Rattle.frame_rule.specs.Hauls.{CutsShare, GivesUp, Moves, NumbersOn, SameHaul, SharesData};
 ghost use Rattle.frame_rule.specs.Units.{Gives};

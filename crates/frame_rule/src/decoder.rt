@@ -5,8 +5,7 @@ ghost use Rattle.buffer_model.specs.Segment.{bytes_of};
 ghost use Rattle.buffer_model.specs.Stake.{KeepsTotals, KeepsTotalsBelow};
 ghost use Rattle.iobuf_chain.specs.Accounts.{held_by};
 ghost use Rattle.iobuf_chain.specs.Copies.{IsHeavy, WithData};
-ghost use Rattle.frame_head.specs.Checks.{fault_of};
-ghost use Rattle.frame_rule.specs.Scanning.{most_kept};
+ghost use Rattle.frame_head.specs.Codecs.{fault_of, most_kept};
 ghost use Rattle.frame_rule.specs.Hauls.{AreReturns, Begins, NumbersOn, ReturnsPiece, SameHaul, SharesData, hauled};
 ghost use Rattle.frame_rule.specs.Decoding.{Decoding, Ended, Fed, TakesEnd, TakesIn, TakesPartly};
 

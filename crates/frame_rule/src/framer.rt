@@ -1,6 +1,6 @@
 //! Decoders: one engine, in which a scanner finds the ends of units.
 ghost use Rattle.std.specs.Prelude.{◌≡◌, ◌+◌, ◌-◌, ◌<◌, [], true, false, None, length, take};
-ghost use Rattle.frame_head.specs.Checks.{fault_of};
+ghost use Rattle.frame_head.specs.Codecs.{fault_of};
 ghost use Rattle.frame_rule.specs.Decoding.{fresh};
 ghost use Rattle.frame_rule.specs.Framing.{StandsFor, decoding_of};
 

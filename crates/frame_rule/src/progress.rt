@@ -3,7 +3,7 @@ ghost use Rattle.std.specs.Prelude.{if◌then◌else◌, ◌≡◌, ◌+◌, ◌
 ghost use Rattle.std.specs.Option.{ForSome};
 ghost use Rattle.buffer_model.specs.Segment.{bytes_of};
 ghost use Rattle.iobuf_chain.specs.Copies.{IsHeavy, WithData};
-ghost use Rattle.frame_head.specs.Units.{FrameAt, FaultAt};
+ghost use Rattle.frame_head.specs.Heads.{FrameAt, FaultAt};
 ghost use Rattle.frame_rule.specs.Scanning.{inner};
 ghost use Rattle.frame_rule.specs.Framing.{Advances, Passes, Stands, Stops};
 ghost use Rattle.frame_rule.specs.Hauls.{Moves, SharesData};

@@ -1,7 +1,6 @@
 ghost use Rattle.std.specs.Prelude.{◌≡◌, ℕ, ◌+◌, ◌<◌, ◌^◌, List, [], None, length};
 ghost use Rattle.frame_head.specs.declared.codecs.Codec.{Codec};
-ghost use Rattle.frame_head.specs.Checks.{fault_of};
-ghost use Rattle.frame_head.specs.Units.{last_unit};
+ghost use Rattle.frame_head.specs.Codecs.{last_unit, fault_of};
 ghost use Rattle.frame_rule.specs.Scanning.{Scanned, last_of};
 
 use frame_head::{Codec, FaultKind};

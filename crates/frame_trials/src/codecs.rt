@@ -1,7 +1,5 @@
 ghost use Rattle.std.specs.Prelude.{IfOk};
-ghost use Rattle.frame_head.specs.Laws.{IsLength};
-ghost use Rattle.frame_line.specs.Lines.{IsLine};
-ghost use Rattle.frame_delim.specs.Marks.{IsDelim};
+ghost use Rattle.frame_head.specs.Codecs.{IsLength, IsLine, IsDelim};
 
 use frame_head::{Codec, LineEnd, Mark, Marks};
 use std::alloc::Global;

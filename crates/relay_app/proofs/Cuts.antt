@@ -3,7 +3,8 @@ use Rattle.std.proofs.Common.{◌≡◌, ℕ, ◌+◌, ◌-◌, Bool, true, fals
 use Rattle.std.specs.Result.{OnErr, OnOk, is_err}
 use Rattle.frame_head.specs.declared.codecs.Codec.{Codec}
 use Rattle.frame_head.specs.Laws.{Extends}
-use Rattle.frame_head.specs.Units.{FramingUnit, units, ended, units_of_end, rest}
+use Rattle.frame_head.specs.Heads.{FramingUnit}
+use Rattle.frame_head.specs.Units.{units, ended, units_of_end, rest}
 use Rattle.frame_rule.specs.declared.decoder.FeedFault.{FeedFault}
 use Rattle.frame_rule.specs.declared.unit.FrameUnit.{FrameUnit}
 use Rattle.frame_rule.specs.Decoding.{Decoding, Fed, TakesIn, TakesEnd}

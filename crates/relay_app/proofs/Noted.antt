@@ -1,6 +1,6 @@
 -- The first fault among joined units.
 use Rattle.std.proofs.Common.{◌≡◌, List, [], ◌∷◌, ◌++◌, Option, Some, None, refl, sym}
-use Rattle.frame_head.specs.Units.{FramingUnit, FrameAt, FaultAt}
+use Rattle.frame_head.specs.Heads.{FramingUnit, FrameAt, FaultAt}
 use Rattle.relay_app.specs.declared.stream_fault.StreamFault.{StreamFault}
 use Rattle.relay_app.specs.Noting.{fault_after, first_fault}
 

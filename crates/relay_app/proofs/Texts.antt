@@ -5,7 +5,7 @@ use Rattle.std.proofs.lemmas.Grind.{flat_map-append}
 use Rattle.std.proofs.lemmas.List.{take_more, map-append}
 use Rattle.std.proofs.lemmas.Option.{get_or_from_slice_get}
 use Rattle.hex.specs.Hex.{encode_lower}
-use Rattle.frame_head.specs.Units.{FramingUnit}
+use Rattle.frame_head.specs.Heads.{FramingUnit}
 use Rattle.frame_rule.specs.declared.unit.FrameUnit.{FrameUnit}
 use Rattle.frame_rule.specs.Units.{unit_of, units_of}
 use Rattle.buffer_model.specs.Segment.{Segment, bytes_of}

@@ -1,7 +1,8 @@
 -- A stream that is being cut, and what comes of it.
 use Rattle.std.specs.Prelude.{◌≡◌, ◌⊎◌, ℕ, ◌≤◌, Bool, true, false, List, [], ◌∷◌, ◌++◌, Option, length, if◌then◌else◌}
 use Rattle.frame_head.specs.declared.codecs.Codec.{Codec}
-use Rattle.frame_head.specs.Units.{FramingUnit, units}
+use Rattle.frame_head.specs.Heads.{FramingUnit}
+use Rattle.frame_head.specs.Units.{units}
 use Rattle.frame_rule.specs.Decoding.{Decoding}
 use Rattle.relay_ports.specs.States.{SourceState, SinkState}
 use Rattle.buffered_io.specs.declared.reading.Stop.{Stop}

@@ -1,7 +1,8 @@
 -- The command `frames`: a line for each unit of what was read, and a last line.
 use Rattle.std.specs.Prelude.{ℕ, Bool, List, ◌++◌, length, if◌then◌else◌}
 use Rattle.frame_head.specs.declared.codecs.Codec.{Codec}
-use Rattle.frame_head.specs.Units.{FramingUnit, units, ended}
+use Rattle.frame_head.specs.Heads.{FramingUnit}
+use Rattle.frame_head.specs.Units.{units, ended}
 use Rattle.relay_app.specs.Noting.{first_fault}
 use Rattle.relay_app.specs.Runs.{Command}
 use Rattle.relay_app.specs.Text.{unit_lines, end_line}

@@ -1,6 +1,6 @@
 -- The first fault among units.
 use Rattle.std.specs.Prelude.{List, [], ◌∷◌, Option, Some, None}
-use Rattle.frame_head.specs.Units.{FramingUnit, FrameAt, FaultAt}
+use Rattle.frame_head.specs.Heads.{FramingUnit, FrameAt, FaultAt}
 use Rattle.relay_app.specs.declared.stream_fault.StreamFault.{StreamFault}
 
 -- the first fault among some units

@@ -3,7 +3,7 @@ use Rattle.std.specs.Prelude.{ℕ, List, [], ◌∷◌, ◌++◌, length, codes,
 use Rattle.hex.specs.Hex.{encode_lower}
 use Rattle.frame_head.specs.declared.codecs.FaultKind.{FaultKind}
 use Rattle.frame_head.specs.declared.codecs.FaultKind.TheVariants.{TooSmall, TooLong, StripOver, Cut, BadLine}
-use Rattle.frame_head.specs.Units.{FramingUnit, FrameAt, FaultAt}
+use Rattle.frame_head.specs.Heads.{FramingUnit, FrameAt, FaultAt}
 
 -- bytes in lower-case hexadecimal, and a dash for none
 abbrev pub hex_or_dash : List ℕ → List ℕ

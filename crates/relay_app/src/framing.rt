@@ -1,5 +1,5 @@
 ghost use Rattle.std.specs.Prelude.{◌≡◌, ◌≤◌, ◌^◌, [], None, IfOk, OnErr};
-ghost use Rattle.frame_head.specs.Checks.{fault_of};
+ghost use Rattle.frame_head.specs.Codecs.{fault_of};
 ghost use Rattle.frame_rule.specs.Decoding.{fresh};
 ghost use Rattle.relay_ports.specs.States.{IsFreshSource};
 ghost use Rattle.relay_app.specs.Cutting.{CutsTo, HasCut, Interrupted};

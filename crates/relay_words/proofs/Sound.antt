@@ -6,7 +6,7 @@ use Rattle.std.specs.Option.{is_none}
 use Rattle.std.proofs.lemmas.List.Elements.{All-cons}
 use Rattle.frame_head.specs.declared.codecs.Codec.{Codec}
 use Rattle.frame_head.specs.declared.out.Out.{Out}
-use Rattle.frame_head.specs.Checks.{fault_of}
+use Rattle.frame_head.specs.Codecs.{fault_of}
 use Rattle.frame_head.specs.Outs.{out_fault}
 use Rattle.relay_words.specs.declared.command.CommandName.{CommandName}
 use Rattle.relay_words.specs.declared.command.CommandName.TheVariants.{Frames as frames, Chain as chain, Relay as relay, Mill as mill}

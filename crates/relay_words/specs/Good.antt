@@ -2,7 +2,7 @@
 use Rattle.std.specs.Prelude.{◌≡◌, ℕ, ◌<◌, ◌≤◌, false, List, Option, Some, None, All, length, ◌≢◌, AllPairs}
 use Rattle.frame_head.specs.declared.codecs.Codec.{Codec}
 use Rattle.frame_head.specs.declared.out.Out.{Out}
-use Rattle.frame_head.specs.Checks.{fault_of}
+use Rattle.frame_head.specs.Codecs.{fault_of}
 use Rattle.frame_head.specs.Outs.{out_fault}
 use Rattle.relay_words.specs.declared.order.Order.{Order}
 use Rattle.relay_words.specs.declared.order.Order.TheVariants.{Frames, Chain, Relay, Mill}

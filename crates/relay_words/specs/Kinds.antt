@@ -6,7 +6,7 @@ use Rattle.frame_head.specs.declared.codecs.Codec.{Codec}
 use Rattle.frame_head.specs.declared.out.Out.{Out}
 use Rattle.frame_head.specs.declared.checks.CodecFault.{CodecFault}
 use Rattle.frame_head.specs.declared.checks.CodecFault.TheVariants.{BadField as field_fault, ZeroLen as zero_fault, MaxOver as max_fault, OffsetOver as offset_fault, NoDelim as delim_fault, DelimOver as mark_fault}
-use Rattle.frame_head.specs.Checks.{fault_of}
+use Rattle.frame_head.specs.Codecs.{fault_of}
 use Rattle.frame_head.specs.Outs.{out_fault}
 use Rattle.relay_words.specs.declared.command.CommandName.{CommandName}
 use Rattle.relay_words.specs.declared.command.CommandName.TheVariants.{Frames, Chain, Relay, Mill}

@@ -5,9 +5,9 @@ use Rattle.std.specs.Option.{is_none}
 use Rattle.frame_head.specs.declared.codecs.Codec.{Codec}
 use Rattle.frame_head.specs.declared.out.Out.{Out}
 use Rattle.frame_head.specs.declared.out.Out.TheVariants.{Length, Line, Delim, Raw}
-use Rattle.frame_head.specs.Checks.{fault_of}
+use Rattle.frame_head.specs.Codecs.{fault_of, longest_of}
 use Rattle.frame_head.specs.Outs.{out_fault}
-use Rattle.frame_head.specs.Longest.{longest_of, most_in_field}
+use Rattle.frame_head.specs.Longest.{most_in_field}
 use Rattle.relay_words.specs.declared.command.CommandName.{CommandName}
 use Rattle.relay_words.specs.declared.command.CommandName.TheVariants.{Frames as frames, Chain as chain, Relay as relay, Mill as mill}
 use Rattle.relay_words.specs.declared.faults.UsageKind.TheVariants.{Command, Missing, OutOver, InOut}

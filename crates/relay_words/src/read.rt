@@ -1,6 +1,6 @@
 //! The words as a whole.
 ghost use Rattle.std.specs.Prelude.{◌≡◌, ◌≢◌, None, Ok, Err, IfOk, IfErr, codes, map, string_bytes};
-ghost use Rattle.frame_head.specs.Checks.{fault_of};
+ghost use Rattle.frame_head.specs.Codecs.{fault_of};
 ghost use Rattle.frame_head.specs.Outs.{out_fault};
 ghost use Rattle.relay_words.specs.Good.{IsGood};
 ghost use Rattle.relay_words.specs.Orders.{option_in, order, order_behind, order_of, out_over, place_of, relay_by};

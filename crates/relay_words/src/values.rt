@@ -1,6 +1,6 @@
 //! The values of options and of words by themselves.
 ghost use Rattle.std.specs.Prelude.{◌≡◌, None, IfOk, IfSome, find, option_copied};
-ghost use Rattle.frame_head.specs.Checks.{fault_of};
+ghost use Rattle.frame_head.specs.Codecs.{fault_of};
 ghost use Rattle.frame_head.specs.Outs.{out_fault};
 ghost use Rattle.relay_words.specs.Numbers.{number_in};
 ghost use Rattle.relay_words.specs.Codecs.{codec_of};

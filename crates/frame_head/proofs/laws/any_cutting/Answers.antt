@@ -1,4 +1,4 @@
-use Rattle.frame_head.proofs.Passed.{passed_steady}
+use Rattle.frame_head.proofs.Cases.{passed_steady}
 use Rattle.frame_head.proofs.Cutting.{any_cutting}
 use Rattle.frame_head.proofs.laws.any_cutting.Goals as goal
 

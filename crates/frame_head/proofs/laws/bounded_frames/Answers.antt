@@ -1,4 +1,4 @@
-use Rattle.frame_head.proofs.Shortness.{bounded_frames}
+use Rattle.frame_head.proofs.Bounds.{bounded_frames}
 use Rattle.frame_head.proofs.laws.bounded_frames.Goals as goal
 
 pub returns : goal.returns

@@ -1,4 +1,4 @@
-use Rattle.frame_head.proofs.Passed.{passed_steady}
+use Rattle.frame_head.proofs.Cases.{passed_steady}
 use Rattle.frame_head.proofs.Cutting.{extends}
 use Rattle.frame_head.proofs.laws.stable_units.Goals as goal
 

@@ -1,6 +1,6 @@
 use Rattle.std.proofs.Common.{◌≡◌, None, refl, sym, subst, arith}
 use Rattle.frame_head.specs.declared.codecs.Codec.TheVariants.{Delim}
-use Rattle.frame_head.specs.Checks.{fault_of}
+use Rattle.frame_head.specs.Codecs.{fault_of}
 use Rattle.frame_rule.specs.declared.scanner.Scan.{Scan}
 use Rattle.frame_rule.specs.Scanning.{Scanned}
 use Rattle.frame_rule.proofs.Terminated.{scanned_at}

@@ -1,5 +1,5 @@
 use Rattle.std.proofs.Common.{arith, subst, sym, List, []}
-use Rattle.frame_head.specs.Units.{FramingUnit}
+use Rattle.frame_head.specs.Heads.{FramingUnit}
 use Rattle.frame_rule.specs.Units.{unit_of}
 use Rattle.relay_app.specs.Cutting.{Cutting, TakesUnits}
 use Rattle.relay_app.proofs.Cuts.{takes_more, takes_nothing}
