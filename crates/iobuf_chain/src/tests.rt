@@ -9,84 +9,92 @@ use crate::Chain;
 use iobuf_node::IoBuf;
 use share_count::Mint;
 use std::alloc::Global;
+use std::process::Abort;
+use storage::Back;
 
-// What a step of a test could not be done with.
-#[derive(Debug, Drop)]
-struct Unexpected;
-
-// How a node is made: of copied bytes between two rooms, of copied bytes without room, or of wrapped bytes.
-#[derive(Clone, Copy, Drop)]
-enum Piece {
-    Roomy(&'static [u8]),
-    Tight(&'static [u8]),
-    Wrapped(&'static [u8]),
-}
-
-// A node of copied bytes between rooms of 1 and 2 bytes, or without room.
+// A node of copied bytes, between rooms of so many bytes.
 fn copied(
+    rt: &impl Abort,
     alloc: Global,
     bytes: &[u8],
-    roomy: bool,
+    rooms: (usize, usize),
     mint: &mut Mint,
-) -> Result<IoBuf<'static>, Unexpected> {
-    if bytes.len() > 100 {
-        return Err(Unexpected);
-    }
-    let head = if roomy { 1 } else { 0 };
-    let tail = if roomy { 2 } else { 0 };
-    IoBuf::copy(alloc, bytes, head, tail, mint).map_err(|_| Unexpected)
+) -> IoBuf<'static> {
+    let (head, tail) = rooms;
+    assert!(rt; bytes.len() <= 100 && head <= 100 && tail <= 100);
+    IoBuf::copy(alloc, bytes, head, tail, mint).expect(rt, "memory for a node")
 }
 
-fn node(alloc: Global, piece: Piece, mint: &mut Mint) -> Result<IoBuf<'static>, Unexpected> {
-    match piece {
-        Piece::Roomy(bytes) => copied(alloc, bytes, true, mint),
-        Piece::Tight(bytes) => copied(alloc, bytes, false, mint),
-        Piece::Wrapped(bytes) => Ok(IoBuf::wrap(bytes)),
+// A node as a text tells it: `ab` of copied bytes without rooms, `+ab` between rooms of 1 and 2 bytes, `&ab` of wrapped
+// bytes.
+fn node(rt: &impl Abort, alloc: Global, text: &'static str, mint: &mut Mint) -> IoBuf<'static> {
+    if let Some(data) = text.strip_prefix('&') {
+        return IoBuf::wrap(data.as_bytes());
+    }
+    match text.strip_prefix('+') {
+        Some(data) => copied(rt, alloc, data.as_bytes(), (1, 2), mint),
+        None => copied(rt, alloc, text.as_bytes(), (0, 0), mint),
     }
 }
 
 // A chain of one node.
-fn one(alloc: Global, piece: Piece, mint: &mut Mint) -> Result<Chain<'static>, Unexpected> {
-    let node = node(alloc, piece, mint)?;
-    Chain::of(alloc, node).map_err(|_| Unexpected)
+fn one(rt: &impl Abort, alloc: Global, text: &'static str, mint: &mut Mint) -> Chain<'static> {
+    let node = node(rt, alloc, text, mint);
+    Chain::of(alloc, node).expect(rt, "a chain")
 }
 
 // The second behind the first.
-fn join<'a>(first: &mut Chain<'a>, second: Chain<'a>) -> Result<(), Unexpected> {
-    if first.length() > 1000 || second.length() > 1000 {
-        return Err(Unexpected);
-    }
-    first.append_chain(second).map_err(|_| Unexpected)
+fn join<'a>(rt: &impl Abort, first: &mut Chain<'a>, second: Chain<'a>) {
+    assert!(rt; first.length() <= 1000 && second.length() <= 1000);
+    first.append_chain(second).expect(rt, "memory for a list");
 }
 
-// A chain of such nodes.
-fn chain_of(
-    alloc: Global,
-    pieces: &[Piece],
-    mint: &mut Mint,
-) -> Result<Chain<'static>, Unexpected> {
-    let Some(first) = pieces.first() else {
-        return Err(Unexpected);
-    };
-    let mut chain = one(alloc, *first, mint)?;
-    for i in 1..pieces.len() {
-        let next = one(alloc, pieces[i], mint)?;
-        join(&mut chain, next)?;
+// A chain of nodes with a bar between them, as `ab|+c|&d`.
+fn chain_of(rt: &impl Abort, alloc: Global, text: &'static str, mint: &mut Mint) -> Chain<'static> {
+    let mut nodes = text.split('|');
+    let first = nodes.next().expect(rt, "a node");
+    let mut chain = one(rt, alloc, first, mint);
+    for next in nodes {
+        let next = one(rt, alloc, next, mint);
+        join(rt, &mut chain, next);
     }
-    Ok(chain)
+    chain
 }
 
-// Whether the nodes of a chain have these data, in order, and its length is their sum.
-fn shows(chain: &Chain<'_>, texts: &[&[u8]]) -> bool {
-    if chain.elements() != texts.len() {
-        return false;
-    }
+// Whether the nodes of a chain have these data, with a bar between them, and its length is their sum.
+fn shows(chain: &Chain<'_>, text: &str) -> bool {
+    let mut i = 0usize;
     let mut left = chain.length();
-    for (i, text) in texts.iter().enumerate() {
-        if i >= chain.elements() || chain.node(i).bytes() != *text || text.len() > left {
+    for data in text.split('|') {
+        if i >= chain.elements() || chain.node(i).bytes() != data.as_bytes() || data.len() > left {
             return false;
         }
-        left -= text.len();
+        left -= data.len();
+        i += 1;
     }
-    left == 0
+    i == chain.elements() && left == 0
+}
+
+// Whether the nodes of a chain stand on storages of these numbers, wrapped ones on none.
+fn numbered(chain: &Chain<'_>, numbers: &[Option<u64>]) -> bool {
+    if chain.elements() != numbers.len() {
+        return false;
+    }
+    for (i, number) in numbers.iter().enumerate() {
+        if i >= chain.elements() || chain.node(i).number() != *number {
+            return false;
+        }
+    }
+    true
+}
+
+// What came back, in a word.
+fn word(back: Option<Back>) -> &'static str {
+    match back {
+        Some(Back::Done(_)) => "done",
+        Some(Back::Kept(_)) => "kept",
+        Some(Back::Nothing) => "nothing",
+        Some(_) => "something else",
+        None => "no more",
+    }
 }

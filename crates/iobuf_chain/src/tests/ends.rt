@@ -1,81 +1,63 @@
 //! Chains that lose bytes at an end, and that are given back.
-use super::Piece::{self, Roomy, Tight, Wrapped};
-use super::{Unexpected, chain_of, shows};
+use super::{chain_of, join, one, shows, word};
 use share_count::Mint;
 use std::alloc::Global;
 use std::process::Abort;
-use std::test::Fail;
-use storage::Back;
+use storage::Returns;
 
-// What is left where so many bytes leave at the start, and then so many at the end.
+// Whether these nodes stay where so many bytes leave at the start, and then so many at the end.
 fn trims(
+    rt: &impl Abort,
     alloc: Global,
-    pieces: &[Piece],
+    nodes: &'static str,
     start: usize,
     end: usize,
-    shown: &[&[u8]],
-) -> Result<bool, Unexpected> {
-    let mut chain = chain_of(alloc, pieces, &mut Mint::new())?;
-    if start > chain.length() {
-        return Err(Unexpected);
-    }
+    left: &str,
+) -> bool {
+    let mut chain = chain_of(rt, alloc, nodes, &mut Mint::new());
+    assert!(rt; start <= chain.length());
     chain.trim_start(start);
-    if end > chain.length() {
-        return Err(Unexpected);
-    }
+    assert!(rt; end <= chain.length());
     chain.trim_end(end);
-    Ok(shows(&chain, shown))
+    shows(&chain, left)
 }
 
 #[test]
-fn chains_are_trimmed(rt: HostRuntime) -> Result<(), Fail> {
-    let alloc = rt.alloc();
-    assert!(rt; trims(alloc, &[Roomy(b"abc")], 0, 0, &[b"abc"])?);
-    assert!(rt; trims(alloc, &[Roomy(b"abc")], 1, 2, &[b""])?);
-    assert!(rt;
-        trims(
-            alloc,
-            &[Tight(b"abc"), Wrapped(b""), Roomy(b"defg")],
-            4,
-            1,
-            &[b"", b"", b"ef"]
-        )?
-    );
-    assert!(rt;
-        trims(
-            alloc,
-            &[Tight(b"abc"), Wrapped(b"de"), Roomy(b"f")],
-            3,
-            2,
-            &[b"", b"d", b""]
-        )?
-    );
-    assert!(rt;
-        trims(
-            alloc,
-            &[Tight(b""), Wrapped(b"ab"), Roomy(b"")],
-            1,
-            1,
-            &[b"", b"", b""]
-        )?
-    );
-    Ok(())
-}
-
-#[test]
-fn chains_are_given_back(rt: HostRuntime) -> Result<(), Fail> {
-    let alloc = rt.alloc();
-    let mut mint = Mint::new();
-    let mut chain = chain_of(alloc, &[Tight(b""), Roomy(b"ab")], &mut mint)?;
-    assert!(rt; !chain.is_shared());
-    super::join(&mut chain, super::one(alloc, Wrapped(b"xy"), &mut mint)?)?;
-    assert!(rt; chain.is_shared());
-    let mut backs = chain.give_back();
-    assert_eq!(rt; backs.len(), 3);
-    for _ in 0..2 {
-        assert!(rt; matches!(backs.pop(), Some(Back::Done(_))));
+fn chains_are_trimmed(rt: HostRuntime) {
+    // The chain, how many bytes leave at the start and at the end, and what is left.
+    let rows = [
+        ("+abc", 0, 0, "abc"),
+        ("+abc", 1, 2, ""),
+        ("abc|&|+defg", 4, 1, "||ef"),
+        ("abc|&de|+f", 3, 2, "|d|"),
+        ("|&ab|+", 1, 1, "||"),
+    ];
+    for (nodes, start, end, left) in rows {
+        assert!(rt;
+            trims(&rt, rt.alloc(), nodes, start, end, left),
+            "at {nodes}"
+        );
     }
-    assert!(rt; matches!(backs.pop(), Some(Back::Nothing)));
-    assert!(rt; backs.pop().is_none());
-    Ok(())
+}
+
+// Whether these come back, in this order, and no more.
+fn came_back(mut backs: Returns, words: &[&str]) -> bool {
+    let count = backs.len();
+    for expected in words {
+        if word(backs.pop()) != *expected {
+            return false;
+        }
+    }
+    count == words.len() && backs.pop().is_none()
+}
+
+#[test]
+fn chains_are_given_back(rt: HostRuntime) {
+    let mut mint = Mint::new();
+    let mut chain = chain_of(&rt, rt.alloc(), "|+ab", &mut mint);
+    assert!(rt; !chain.is_shared());
+    let third = one(&rt, rt.alloc(), "&xy", &mut mint);
+    join(&rt, &mut chain, third);
+    assert!(rt; chain.is_shared());
+    assert!(rt; came_back(chain.give_back(), &["done", "done", "nothing"]));
 }

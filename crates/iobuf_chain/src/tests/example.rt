@@ -1,56 +1,63 @@
 //! The whole of it once: a chain that is made, joined, taken apart, shared and managed.
-use super::{Unexpected, join, shows};
+use super::{join, shows};
 use crate::{Chain, CutFault};
 use iobuf_node::IoBuf;
 use share_count::Mint;
 use std::alloc::Global;
 use std::process::Abort;
-use std::test::Fail;
 
 // A chain of three nodes.
-fn three(alloc: Global, mint: &mut Mint) -> Result<Chain<'static>, Unexpected> {
-    let head = IoBuf::copy(alloc, b"head ", 0, 0, mint).map_err(|_| Unexpected)?;
-    let mut chain = Chain::of(alloc, head).map_err(|_| Unexpected)?;
-    let body = Chain::of(alloc, IoBuf::wrap(b"body")).map_err(|_| Unexpected)?;
-    join(&mut chain, body)?;
-    let end = Chain::of(alloc, IoBuf::wrap(b" end")).map_err(|_| Unexpected)?;
-    join(&mut chain, end)?;
-    Ok(chain)
+fn three(rt: &impl Abort, alloc: Global, mint: &mut Mint) -> Chain<'static> {
+    let head = IoBuf::copy(alloc, b"head ", 0, 0, mint).expect(rt, "memory for a node");
+    let mut chain = Chain::of(alloc, head).expect(rt, "a chain");
+    let body = Chain::of(alloc, IoBuf::wrap(b"body")).expect(rt, "a chain");
+    join(rt, &mut chain, body);
+    let end = Chain::of(alloc, IoBuf::wrap(b" end")).expect(rt, "a chain");
+    join(rt, &mut chain, end);
+    chain
+}
+
+// The last of three nodes moves behind the first.
+fn put_last_behind_first(rt: &impl Abort, chain: &mut Chain<'static>) {
+    assert!(rt; chain.elements() == 3);
+    let last = chain.separate(2, 3).expect(rt, "the last node");
+    assert!(rt; chain.elements() == 2 && chain.length() < 100 && last.length() < 100);
+    chain.insert_after(0, last).expect(rt, "memory for a list");
+}
+
+// The second of three nodes becomes the last.
+fn put_second_last(rt: &impl Abort, chain: &mut Chain<'static>) {
+    assert!(rt; chain.elements() == 3);
+    let second = chain.unlink(1).expect(rt, "the second node");
+    join(rt, chain, second);
 }
 
 #[test]
-fn a_chain_is_taken_apart(rt: HostRuntime) -> Result<(), Fail> {
-    let alloc = rt.alloc();
-    let mut chain = three(alloc, &mut Mint::new())?;
-    assert!(rt; shows(&chain, &[b"head ", b"body", b" end"]) && chain.elements() == 3);
-    let end = chain.separate(2, 3)?;
-    assert!(rt; chain.elements() == 2 && chain.length() < 100 && end.length() < 100);
-    chain.insert_after(0, end).map_err(|_| Unexpected)?;
-    assert!(rt; shows(&chain, &[b"head ", b" end", b"body"]) && chain.elements() == 3);
-    let end = chain.unlink(1)?;
-    join(&mut chain, end)?;
-    assert!(rt; shows(&chain, &[b"head ", b"body", b" end"]) && chain.elements() == 3);
-    let first = chain.pop()?;
-    assert!(rt; shows(&first, &[b"head "]) && shows(&chain, &[b"body", b" end"]));
-    Ok(())
+fn a_chain_is_taken_apart(rt: HostRuntime) {
+    let mut chain = three(&rt, rt.alloc(), &mut Mint::new());
+    assert!(rt; shows(&chain, "head |body| end"));
+    put_last_behind_first(&rt, &mut chain);
+    assert!(rt; shows(&chain, "head | end|body"));
+    put_second_last(&rt, &mut chain);
+    assert!(rt; shows(&chain, "head |body| end") && chain.elements() == 3);
+    let first = chain.pop().expect(&rt, "the first node");
+    assert!(rt; shows(&first, "head ") && shows(&chain, "body| end"));
 }
 
 #[test]
-fn a_chain_is_shared_and_managed(rt: HostRuntime) -> Result<(), Fail> {
+fn a_chain_is_shared_and_managed(rt: HostRuntime) {
     let alloc = rt.alloc();
     let mut mint = Mint::new();
-    let mut chain = three(alloc, &mut mint)?;
-    let part = chain.share_range(alloc, 3, 5, &mut mint)?;
-    assert!(rt; shows(&part, &[b"d ", b"bod"]));
+    let mut chain = three(&rt, alloc, &mut mint);
+    let part = chain
+        .share_range(alloc, 3, 5, &mut mint)
+        .expect(&rt, "a share");
+    assert!(rt; shows(&part, "d |bod"));
     let refused = chain.share_range(alloc, 3, 11, &mut mint).err();
     assert!(rt; refused == Some(CutFault::Short { asked: 11, had: 10 }));
-    let second = chain.share_all(alloc, &mut mint)?;
+    let second = chain.share_all(alloc, &mut mint).expect(&rt, "a share");
     let managed = second
         .into_managed(alloc, &mut mint)
-        .map_err(|_| Unexpected)?;
-    assert!(rt;
-        shows(&managed, &[b"head ", b"body", b" end"])
-            && shows(&chain, &[b"head ", b"body", b" end"])
-    );
-    Ok(())
+        .expect(&rt, "managed nodes");
+    assert!(rt; shows(&managed, "head |body| end") && shows(&chain, "head |body| end"));
 }

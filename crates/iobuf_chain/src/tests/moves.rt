@@ -2,285 +2,177 @@
 ghost use Rattle.std.specs.Prelude.{◌<◌, ◌+◌, ◌^◌, length};
 ghost use Rattle.buffer_model.specs.Segment.{bytes_of};
 
-use super::Piece::{self, Roomy, Tight, Wrapped};
-use super::{Unexpected, chain_of, join, node, shows};
+use super::{chain_of, join, node, shows};
 use crate::Chain;
 use iobuf_node::IoBuf;
 use share_count::Mint;
 use std::alloc::Global;
 use std::process::Abort;
-use std::test::Fail;
 
 // Others behind node i.
 fn inserts(
+    rt: &impl Abort,
     alloc: Global,
-    pieces: &[Piece],
+    nodes: &'static str,
     i: usize,
-    others: &[Piece],
-    shown: &[&[u8]],
-) -> Result<bool, Unexpected> {
+    others: &'static str,
+    all: &str,
+) -> bool {
     let mut mint = Mint::new();
-    let mut chain = chain_of(alloc, pieces, &mut mint)?;
-    let second = chain_of(alloc, others, &mut mint)?;
-    if i >= chain.elements() || chain.length() > 1000 || second.length() > 1000 {
-        return Err(Unexpected);
-    }
-    chain.insert_after(i, second).map_err(|_| Unexpected)?;
-    Ok(shows(&chain, shown))
+    let mut chain = chain_of(rt, alloc, nodes, &mut mint);
+    let second = chain_of(rt, alloc, others, &mut mint);
+    assert!(rt; i < chain.elements() && chain.length() <= 1000 && second.length() <= 1000);
+    chain
+        .insert_after(i, second)
+        .expect(rt, "memory for a list");
+    shows(&chain, all)
 }
 
 #[test]
-fn nodes_join_behind_a_node(rt: HostRuntime) -> Result<(), Fail> {
-    let alloc = rt.alloc();
-    assert!(rt; inserts(alloc, &[Roomy(b"a")], 0, &[Tight(b"b")], &[b"a", b"b"])?);
-    assert!(rt;
-        inserts(
-            alloc,
-            &[Tight(b"a"), Roomy(b"")],
-            0,
-            &[Wrapped(b"xy"), Tight(b"")],
-            &[b"a", b"xy", b"", b""]
-        )?
-    );
-    assert!(rt;
-        inserts(
-            alloc,
-            &[Roomy(b""), Wrapped(b"b"), Tight(b"c")],
-            1,
-            &[Roomy(b"de")],
-            &[b"", b"b", b"de", b"c"]
-        )?
-    );
-    assert!(rt;
-        inserts(
-            alloc,
-            &[Roomy(b"a"), Roomy(b"b"), Roomy(b"c")],
-            2,
-            &[Wrapped(b"")],
-            &[b"a", b"b", b"c", b""]
-        )?
-    );
-    Ok(())
+fn nodes_join_behind_a_node(rt: HostRuntime) {
+    // The chain, the node behind which the others come, the others, and all.
+    let rows = [
+        ("+a", 0, "b", "a|b"),
+        ("a|+", 0, "&xy|", "a|xy||"),
+        ("+|&b|c", 1, "+de", "|b|de|c"),
+        ("+a|+b|+c", 2, "&", "a|b|c|"),
+    ];
+    for (nodes, i, others, all) in rows {
+        assert!(rt;
+            inserts(&rt, rt.alloc(), nodes, i, others, all),
+            "at {nodes}"
+        );
+    }
 }
 
 // Nodes i up to j away from the others, and back behind the last.
 fn leaves(
+    rt: &impl Abort,
     alloc: Global,
-    pieces: &[Piece],
+    nodes: &'static str,
     i: usize,
     j: usize,
-    left: &[&[u8]],
-    part: &[&[u8]],
-) -> Result<bool, Unexpected> {
-    let mut mint = Mint::new();
-    let mut chain = chain_of(alloc, pieces, &mut mint)?;
-    if i >= j || j > chain.elements() || j - i >= chain.elements() {
-        return Err(Unexpected);
-    }
-    let away = chain.separate(i, j).map_err(|_| Unexpected)?;
-    if !shows(&chain, left) || !shows(&away, part) {
-        return Ok(false);
-    }
-    let count = left.len();
-    join(&mut chain, away)?;
-    Ok(chain.elements() == pieces.len() && count < pieces.len())
+    left: &str,
+    part: &str,
+) -> bool {
+    let mut chain = chain_of(rt, alloc, nodes, &mut Mint::new());
+    let count = chain.elements();
+    assert!(rt; i < j && j <= count && j - i < count);
+    let away = chain.separate(i, j).expect(rt, "memory for a list");
+    let right = shows(&chain, left) && shows(&away, part) && chain.elements() < count;
+    join(rt, &mut chain, away);
+    right && chain.elements() == count
 }
 
 #[test]
-fn nodes_leave(rt: HostRuntime) -> Result<(), Fail> {
-    let alloc = rt.alloc();
-    assert!(rt; leaves(alloc, &[Roomy(b"a"), Tight(b"b")], 0, 1, &[b"b"], &[b"a"])?);
-    assert!(rt; leaves(alloc, &[Roomy(b"a"), Tight(b"b")], 1, 2, &[b"a"], &[b"b"])?);
-    assert!(rt;
-        leaves(
-            alloc,
-            &[Tight(b""), Wrapped(b"xy"), Roomy(b"c"), Tight(b"")],
-            0,
-            3,
-            &[b""],
-            &[b"", b"xy", b"c"]
-        )?
-    );
-    assert!(rt;
-        leaves(
-            alloc,
-            &[Tight(b""), Wrapped(b"xy"), Roomy(b"c"), Tight(b"d")],
-            1,
-            3,
-            &[b"", b"d"],
-            &[b"xy", b"c"]
-        )?
-    );
-    assert!(rt;
-        leaves(
-            alloc,
-            &[Roomy(b"a"), Roomy(b"b"), Roomy(b"c")],
-            1,
-            3,
-            &[b"a"],
-            &[b"b", b"c"]
-        )?
-    );
-    Ok(())
+fn nodes_leave(rt: HostRuntime) {
+    // The chain, the nodes that leave, what is left, and those.
+    let rows = [
+        ("+a|b", 0, 1, "b", "a"),
+        ("+a|b", 1, 2, "a", "b"),
+        ("|&xy|+c|", 0, 3, "", "|xy|c"),
+        ("|&xy|+c|d", 1, 3, "|d", "xy|c"),
+        ("+a|+b|+c", 1, 3, "a", "b|c"),
+    ];
+    for (nodes, i, j, left, part) in rows {
+        assert!(rt;
+            leaves(&rt, rt.alloc(), nodes, i, j, left, part),
+            "at {nodes}"
+        );
+    }
 }
 
 // Node i first.
-fn turns(alloc: Global, pieces: &[Piece], i: usize, shown: &[&[u8]]) -> Result<bool, Unexpected> {
-    let mut chain = chain_of(alloc, pieces, &mut Mint::new())?;
-    if i >= chain.elements() {
-        return Err(Unexpected);
-    }
+fn turns(rt: &impl Abort, alloc: Global, nodes: &'static str, i: usize, turned: &str) -> bool {
+    let mut chain = chain_of(rt, alloc, nodes, &mut Mint::new());
+    assert!(rt; i < chain.elements());
     chain.rotate(i);
-    Ok(shows(&chain, shown))
+    shows(&chain, turned)
 }
 
 #[test]
-fn chains_turn(rt: HostRuntime) -> Result<(), Fail> {
-    let alloc = rt.alloc();
-    assert!(rt; turns(alloc, &[Roomy(b"a")], 0, &[b"a"])?);
-    assert!(rt;
-        turns(
-            alloc,
-            &[Roomy(b"a"), Wrapped(b""), Tight(b"c")],
-            0,
-            &[b"a", b"", b"c"]
-        )?
-    );
-    assert!(rt;
-        turns(
-            alloc,
-            &[Roomy(b"a"), Wrapped(b""), Tight(b"c")],
-            1,
-            &[b"", b"c", b"a"]
-        )?
-    );
-    assert!(rt;
-        turns(
-            alloc,
-            &[Roomy(b"a"), Wrapped(b""), Tight(b"c")],
-            2,
-            &[b"c", b"a", b""]
-        )?
-    );
-    Ok(())
+fn chains_turn(rt: HostRuntime) {
+    // The chain, the node that comes first, and the chain then.
+    let rows = [
+        ("+a", 0, "a"),
+        ("+a|&|c", 0, "a||c"),
+        ("+a|&|c", 1, "|c|a"),
+        ("+a|&|c", 2, "c|a|"),
+    ];
+    for (nodes, i, turned) in rows {
+        assert!(rt; turns(&rt, rt.alloc(), nodes, i, turned), "at {nodes}");
+    }
 }
 
 // Node i away, by itself.
 fn unlinks(
+    rt: &impl Abort,
     alloc: Global,
-    pieces: &[Piece],
+    nodes: &'static str,
     i: usize,
-    left: &[&[u8]],
-    one: &[&[u8]],
-) -> Result<bool, Unexpected> {
-    let mut chain = chain_of(alloc, pieces, &mut Mint::new())?;
-    if i >= chain.elements() || chain.elements() < 2 {
-        return Err(Unexpected);
-    }
+    left: &str,
+    one: &str,
+) -> bool {
+    let mut chain = chain_of(rt, alloc, nodes, &mut Mint::new());
+    assert!(rt; i < chain.elements() && chain.elements() > 1);
     let away = if i == 0 { chain.pop() } else { chain.unlink(i) };
-    let Ok(away) = away else {
-        return Ok(false);
-    };
-    Ok(shows(&chain, left) && shows(&away, one))
+    let away = away.expect(rt, "a node");
+    shows(&chain, left) && shows(&away, one)
 }
 
 #[test]
-fn single_nodes_leave(rt: HostRuntime) -> Result<(), Fail> {
-    let alloc = rt.alloc();
-    assert!(rt; unlinks(alloc, &[Tight(b"a"), Roomy(b"")], 0, &[b""], &[b"a"])?);
-    assert!(rt; unlinks(alloc, &[Tight(b"a"), Roomy(b"")], 1, &[b"a"], &[b""])?);
-    assert!(rt;
-        unlinks(
-            alloc,
-            &[Wrapped(b"ab"), Roomy(b"c"), Tight(b"d")],
-            0,
-            &[b"c", b"d"],
-            &[b"ab"]
-        )?
-    );
-    assert!(rt;
-        unlinks(
-            alloc,
-            &[Wrapped(b"ab"), Roomy(b"c"), Tight(b"d")],
-            1,
-            &[b"ab", b"d"],
-            &[b"c"]
-        )?
-    );
-    Ok(())
+fn single_nodes_leave(rt: HostRuntime) {
+    // The chain, the node that leaves, what is left, and that node.
+    let rows = [
+        ("a|+", 0, "", "a"),
+        ("a|+", 1, "a", ""),
+        ("&ab|+c|d", 0, "c|d", "ab"),
+        ("&ab|+c|d", 1, "ab|d", "c"),
+    ];
+    for (nodes, i, left, one) in rows {
+        assert!(rt; unlinks(&rt, rt.alloc(), nodes, i, left, one), "at {nodes}");
+    }
+}
+
+fn cut<'a>(chain: &mut Chain<'a>, i: usize, last: IoBuf<'a>) -> Result<Chain<'a>, IoBuf<'a>>
+    requires there { i < length chain.old }
+    requires sum { length (bytes_of chain.old) + length last.window < 2 ^ 64 }
+{
+    chain.cut_before(i, last)
 }
 
 // The nodes before node i away, with `last` behind them.
 fn cuts(
+    rt: &impl Abort,
     alloc: Global,
-    pieces: &[Piece],
+    nodes: &'static str,
     i: usize,
-    last: Piece,
-    left: &[&[u8]],
-    front: &[&[u8]],
-) -> Result<bool, Unexpected> {
+    last: &'static str,
+    left: &str,
+    front: &str,
+) -> bool {
     let mut mint = Mint::new();
-    let mut chain = chain_of(alloc, pieces, &mut mint)?;
-    let last = node(alloc, last, &mut mint)?;
-    if i >= chain.elements() || chain.length() > 1000 || last.length() > 1000 {
-        return Err(Unexpected);
-    }
-    let Ok(away) = chain.cut_before(i, last) else {
-        return Ok(false);
-    };
-    Ok(shows(&chain, left) && shows(&away, front))
+    let mut chain = chain_of(rt, alloc, nodes, &mut mint);
+    let last = node(rt, alloc, last, &mut mint);
+    assert!(rt; i < chain.elements() && chain.length() <= 1000 && last.length() <= 1000);
+    let away = cut(&mut chain, i, last).expect(rt, "memory for a list");
+    shows(&chain, left) && shows(&away, front)
 }
 
 #[test]
-fn fronts_are_cut_off(rt: HostRuntime) -> Result<(), Fail> {
-    let alloc = rt.alloc();
-    assert!(rt;
-        cuts(
-            alloc,
-            &[Tight(b"a"), Roomy(b"b")],
-            0,
-            Wrapped(b"x"),
-            &[b"a", b"b"],
-            &[b"x"]
-        )?
-    );
-    assert!(rt;
-        cuts(
-            alloc,
-            &[Tight(b"a"), Roomy(b"b")],
-            1,
-            Wrapped(b""),
-            &[b"b"],
-            &[b"a", b""]
-        )?
-    );
-    assert!(rt;
-        cuts(
-            alloc,
-            &[Roomy(b""), Wrapped(b"bc"), Tight(b"d")],
-            2,
-            Tight(b"e"),
-            &[b"d"],
-            &[b"", b"bc", b"e"]
-        )?
-    );
-    Ok(())
-}
-
-// Node i changed for another, and back.
-#[test]
-fn nodes_are_swapped(rt: HostRuntime) -> Result<(), Fail> {
-    let alloc = rt.alloc();
-    let mut chain = chain_of(alloc, &[Roomy(b"ab"), Tight(b"c")], &mut Mint::new())?;
-    for i in 0..2 {
-        assert!(rt; i < chain.elements() && chain.length() < 1000);
-        let old = swap(&mut chain, i, IoBuf::wrap(b"xyz"));
-        assert!(rt; chain.length() == if i == 0 { 4 } else { 5 });
-        assert!(rt; i < chain.elements() && chain.length() < 1000 && old.length() < 1000);
-        let other = swap(&mut chain, i, old);
-        assert!(rt; other.bytes() == b"xyz".as_slice() && shows(&chain, &[b"ab", b"c"]));
+fn fronts_are_cut_off(rt: HostRuntime) {
+    // The chain, the node before which it is cut, the node that comes last in the front, what is left, and the front.
+    let rows = [
+        ("a|+b", 0, "&x", "a|b", "x"),
+        ("a|+b", 1, "&", "b", "a|"),
+        ("+|&bc|d", 2, "e", "d", "|bc|e"),
+    ];
+    for (nodes, i, last, left, front) in rows {
+        assert!(rt;
+            cuts(&rt, rt.alloc(), nodes, i, last, left, front),
+            "at {nodes}"
+        );
     }
-    Ok(())
 }
 
 fn swap<'a>(chain: &mut Chain<'a>, i: usize, node: IoBuf<'a>) -> IoBuf<'a>
@@ -289,4 +181,22 @@ fn swap<'a>(chain: &mut Chain<'a>, i: usize, node: IoBuf<'a>) -> IoBuf<'a>
 {
     let _old = chain.node(i);
     chain.swap_node(i, node)
+}
+
+// A node in the place of node i, which comes back.
+fn change<'a>(rt: &impl Abort, chain: &mut Chain<'a>, i: usize, node: IoBuf<'a>) -> IoBuf<'a> {
+    assert!(rt; i < chain.elements() && chain.length() <= 1000 && node.length() <= 1000);
+    swap(chain, i, node)
+}
+
+// Node i changed for another, and back.
+#[test]
+fn nodes_are_swapped(rt: HostRuntime) {
+    let mut chain = chain_of(&rt, rt.alloc(), "+ab|c", &mut Mint::new());
+    for (i, changed) in [(0, "xyz|c"), (1, "ab|xyz")] {
+        let old = change(&rt, &mut chain, i, IoBuf::wrap(b"xyz"));
+        assert!(rt; shows(&chain, changed));
+        let other = change(&rt, &mut chain, i, old);
+        assert!(rt; other.bytes() == b"xyz".as_slice() && shows(&chain, "ab|c"));
+    }
 }

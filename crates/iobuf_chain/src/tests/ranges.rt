@@ -1,133 +1,133 @@
 //! Chains that are shared, whole and in ranges.
-use super::Piece::{self, Roomy, Tight, Wrapped};
-use super::{Unexpected, chain_of, shows};
+use super::{chain_of, numbered, shows, word};
 use crate::{Chain, CutFault};
 use share_count::Mint;
 use std::alloc::Global;
 use std::process::Abort;
-use std::test::Fail;
-use storage::Back;
+use storage::{Back, Returns};
 
-// A range that is shared, while the chain stays; and whether the chain is shared then.
+// Whether a range is shared as these nodes, while the chain stays.
 fn shares(
+    rt: &impl Abort,
     alloc: Global,
-    pieces: &[Piece],
-    all: &[&[u8]],
+    nodes: &'static str,
+    all: &str,
     at: usize,
     n: usize,
-    shown: &[&[u8]],
-) -> Result<bool, Unexpected> {
+    part: &str,
+) -> bool {
     let mut mint = Mint::new();
-    let mut chain = chain_of(alloc, pieces, &mut mint)?;
-    let part = chain
+    let mut chain = chain_of(rt, alloc, nodes, &mut mint);
+    let share = chain
         .share_range(alloc, at, n, &mut mint)
-        .map_err(|_| Unexpected)?;
-    Ok(shows(&part, shown) && shows(&chain, all))
+        .expect(rt, "a share");
+    shows(&share, part) && shows(&chain, all)
 }
 
 #[test]
-fn ranges_are_shared(rt: HostRuntime) -> Result<(), Fail> {
-    let alloc = rt.alloc();
-    let one = [Roomy(b"abc")];
-    assert!(rt; shares(alloc, &one, &[b"abc"], 0, 3, &[b"abc"])?);
-    assert!(rt; shares(alloc, &one, &[b"abc"], 1, 1, &[b"b"])?);
-    assert!(rt; shares(alloc, &one, &[b"abc"], 3, 0, &[b""])?);
-    let more = [
-        Roomy(b""),
-        Tight(b"ab"),
-        Wrapped(b"xyz"),
-        Tight(b""),
-        Roomy(b"c"),
+fn ranges_are_shared(rt: HostRuntime) {
+    let (one, more, all) = ("+abc", "+|ab|&xyz||+c", "|ab|xyz||c");
+    // The chain and its data, where the range begins, how many bytes it has, and the nodes of the share.
+    let rows = [
+        (one, "abc", 0, 3, "abc"),
+        (one, "abc", 1, 1, "b"),
+        (one, "abc", 3, 0, ""),
+        (more, all, 0, 6, "ab|xyz|c"),
+        (more, all, 1, 3, "b|xy"),
+        (more, all, 2, 3, "xyz"),
+        (more, all, 4, 2, "z|c"),
+        (more, all, 5, 1, "c"),
+        (more, all, 0, 0, ""),
     ];
-    let all: [&[u8]; 5] = [b"", b"ab", b"xyz", b"", b"c"];
-    assert!(rt; shares(alloc, &more, &all, 0, 6, &[b"ab", b"xyz", b"c"])?);
-    assert!(rt; shares(alloc, &more, &all, 1, 3, &[b"b", b"xy"])?);
-    assert!(rt; shares(alloc, &more, &all, 2, 3, &[b"xyz"])?);
-    assert!(rt; shares(alloc, &more, &all, 4, 2, &[b"z", b"c"])?);
-    assert!(rt; shares(alloc, &more, &all, 5, 1, &[b"c"])?);
-    assert!(rt; shares(alloc, &more, &all, 0, 0, &[b""])?);
-    Ok(())
+    for (nodes, data, at, n, part) in rows {
+        assert!(rt;
+            shares(&rt, rt.alloc(), nodes, data, at, n, part),
+            "{n} from {at}"
+        );
+    }
 }
 
-// Why a range is refused, where the chain has these bytes.
-fn short(
-    alloc: Global,
-    pieces: &[Piece],
-    at: usize,
-    n: usize,
-) -> Result<Option<CutFault>, Unexpected> {
+// Why a range of a chain of three bytes is refused, where it is.
+fn refused(rt: &impl Abort, alloc: Global, at: usize, n: usize) -> Option<CutFault> {
     let mut mint = Mint::new();
-    let mut chain = chain_of(alloc, pieces, &mut mint)?;
-    Ok(chain.share_range(alloc, at, n, &mut mint).err())
+    let mut chain = chain_of(rt, alloc, "ab|&c", &mut mint);
+    chain.share_range(alloc, at, n, &mut mint).err()
 }
 
 #[test]
-fn ranges_past_the_end_are_short(rt: HostRuntime) -> Result<(), Fail> {
-    let alloc = rt.alloc();
-    let two = [Tight(b"ab"), Wrapped(b"c")];
-    assert!(rt; short(alloc, &two, 4, 0)? == Some(CutFault::Short { asked: 4, had: 3 }));
-    assert!(rt; short(alloc, &two, 4, 9)? == Some(CutFault::Short { asked: 4, had: 3 }));
-    assert!(rt; short(alloc, &two, 1, 3)? == Some(CutFault::Short { asked: 3, had: 2 }));
-    assert!(rt; short(alloc, &two, 3, 1)? == Some(CutFault::Short { asked: 1, had: 0 }));
-    assert!(rt;
-        short(alloc, &two, 0, usize::MAX)?
-            == Some(CutFault::Short {
-                asked: usize::MAX,
-                had: 3
-            })
-    );
-    assert!(rt; short(alloc, &two, 3, 0)?.is_none());
-    Ok(())
+fn ranges_past_the_end_are_short(rt: HostRuntime) {
+    // Where the range begins, how many bytes it has, how many were asked for, and how many there were.
+    let rows = [
+        (4, 0, 4, 3),
+        (4, 9, 4, 3),
+        (1, 3, 3, 2),
+        (3, 1, 1, 0),
+        (0, usize::MAX, usize::MAX, 3),
+    ];
+    for (at, n, asked, had) in rows {
+        let fault = refused(&rt, rt.alloc(), at, n);
+        assert!(rt;
+            fault == Some(CutFault::Short { asked, had }),
+            "{n} from {at}"
+        );
+    }
+    assert!(rt; refused(&rt, rt.alloc(), 3, 0).is_none());
 }
 
-// The storage numbers of the nodes, none for a wrapped one.
-fn numbered(chain: &Chain<'_>, numbers: &[Option<u64>]) -> bool {
-    if chain.elements() != numbers.len() {
-        return false;
-    }
-    for (i, number) in numbers.iter().enumerate() {
-        if i >= chain.elements() || chain.node(i).number() != *number {
-            return false;
-        }
-    }
-    true
+// Whether a chain is of one node without room.
+fn is_bare(chain: &Chain<'_>) -> bool {
+    chain.elements() == 1 && chain.node(0).capacity() == 0
 }
 
-#[test]
-fn shares_stand_on_their_storages(rt: HostRuntime) -> Result<(), Fail> {
-    let alloc = rt.alloc();
-    let mut mint = Mint::new();
-    let pieces = [Roomy(b"ab"), Tight(b""), Wrapped(b"xy"), Tight(b"c")];
-    let mut chain = chain_of(alloc, &pieces, &mut mint)?;
-    let part = chain.share_range(alloc, 1, 4, &mut mint)?;
-    assert!(rt; shows(&part, &[b"b", b"xy", b"c"]) && numbered(&part, &[Some(0), None, Some(2)]));
-    let second = chain.share_all(alloc, &mut mint)?;
-    assert!(rt;
-        shows(&second, &[b"ab", b"", b"xy", b"c"]) && shows(&chain, &[b"ab", b"", b"xy", b"c"])
-    );
-    assert!(rt; numbered(&second, &[Some(0), Some(1), None, Some(2)]));
-    assert!(rt; numbered(&chain, &[Some(0), Some(1), None, Some(2)]));
-    let empty = chain.share_range(alloc, 5, 0, &mut mint)?;
-    assert!(rt;
-        numbered(&empty, &[Some(3)]) && empty.elements() == 1 && empty.node(0).capacity() == 0
-    );
-    assert!(rt; matches!(empty.give_back().pop(), Some(Back::Done(_))));
-    Ok(())
+// What comes back first, in a word.
+fn first_word(mut backs: Returns) -> &'static str {
+    word(backs.pop())
 }
 
 #[test]
-fn shares_have_a_part_of_the_weight(rt: HostRuntime) -> Result<(), Fail> {
+fn shares_stand_on_their_storages(rt: HostRuntime) {
     let alloc = rt.alloc();
     let mut mint = Mint::new();
-    let mut chain = chain_of(alloc, &[Tight(b"z")], &mut mint)?;
-    let clone = chain.share_all(alloc, &mut mint)?;
-    assert!(rt; shows(&chain, &[b"z"]) && chain.elements() == 1 && clone.elements() == 1);
-    assert_eq!(rt; chain.node(0).weight(), (1 << 62) - (1 << 40));
-    assert_eq!(rt; clone.node(0).weight(), 1 << 40);
-    match clone.give_back().pop() {
-        Some(Back::Kept(receipt)) => assert_eq!(rt; receipt.weight(), 1 << 40),
-        _other => Err(Unexpected)?,
+    let mut chain = chain_of(&rt, alloc, "+ab||&xy|c", &mut mint);
+    let part = chain
+        .share_range(alloc, 1, 4, &mut mint)
+        .expect(&rt, "a share");
+    assert!(rt; shows(&part, "b|xy|c") && numbered(&part, &[Some(0), None, Some(2)]));
+    let second = chain.share_all(alloc, &mut mint).expect(&rt, "a share");
+    assert!(rt; shows(&second, "ab||xy|c") && shows(&chain, "ab||xy|c"));
+    let numbers = [Some(0), Some(1), None, Some(2)];
+    assert!(rt; numbered(&second, &numbers) && numbered(&chain, &numbers));
+    let empty = chain
+        .share_range(alloc, 5, 0, &mut mint)
+        .expect(&rt, "a share");
+    assert!(rt; numbered(&empty, &[Some(3)]) && is_bare(&empty));
+    assert!(rt; first_word(empty.give_back()) == "done");
+}
+
+// The weight of the first node.
+fn weight(chain: &Chain<'_>) -> u64 {
+    let _nodes = chain.elements();
+    chain.node(0).weight()
+}
+
+// The weight that the first receipt tells, where others keep the storage.
+fn kept_weight(mut backs: Returns) -> Option<u64> {
+    match backs.pop() {
+        Some(Back::Kept(receipt)) => Some(receipt.weight()),
+        _ => None,
     }
-    assert!(rt; matches!(chain.give_back().pop(), Some(Back::Done(_))));
-    Ok(())
+}
+
+#[test]
+fn shares_have_a_part_of_the_weight(rt: HostRuntime) {
+    let mut mint = Mint::new();
+    let mut chain = chain_of(&rt, rt.alloc(), "z", &mut mint);
+    let clone = chain
+        .share_all(rt.alloc(), &mut mint)
+        .expect(&rt, "a share");
+    assert!(rt; shows(&chain, "z") && clone.elements() == 1);
+    assert_eq!(rt; weight(&chain), (1 << 62) - (1 << 40));
+    assert_eq!(rt; weight(&clone), 1 << 40);
+    assert!(rt; kept_weight(clone.give_back()) == Some(1 << 40));
+    assert!(rt; first_word(chain.give_back()) == "done");
 }

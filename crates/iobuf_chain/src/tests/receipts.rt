@@ -1,15 +1,13 @@
 //! Receipts that chains absorb, and chains that are managed.
 ghost use Rattle.std.specs.Prelude.{◌≤◌};
 
-use super::Piece::{Roomy, Tight, Wrapped};
-use super::{Unexpected, chain_of, copied, join, shows};
+use super::{chain_of, copied, numbered, shows};
 use crate::Chain;
 use crate::absorb::first_with;
 use iobuf_node::IoBuf;
 use share_count::Mint;
 use std::alloc::{AllocError, Global};
 use std::process::Abort;
-use std::test::Fail;
 use storage::{Receipt, Release};
 
 // A node whose clone was given back, with the receipt of that.
@@ -34,19 +32,21 @@ fn lender<O: Release>(
     }
 }
 
+// Whether the first node has all the weight that there is, though not all that there ever was.
+fn whole_of_less(chain: &Chain<'_>) -> bool {
+    let _nodes = chain.elements();
+    let node = chain.node(0);
+    node.whole() && node.weight() < 1 << 62
+}
+
 #[test]
-fn a_chain_absorbs_what_came_back(rt: HostRuntime) -> Result<(), Fail> {
-    let alloc = rt.alloc();
+fn a_chain_absorbs_what_came_back(rt: HostRuntime) {
     let mut mint = Mint::new();
-    let node = copied(alloc, b"ab", true, &mut mint)?;
+    let node = copied(&rt, rt.alloc(), b"ab", (1, 2), &mut mint);
     assert!(rt; node.weight() > 1);
-    let Some(chain) = lender(alloc, node, &mut mint)? else {
-        return Ok(Err(Unexpected)?);
-    };
-    assert!(rt;
-        chain.node(0).whole() && chain.node(0).weight() < 1 << 62 && shows(&chain, &[b"ab"])
-    );
-    Ok(())
+    let lent = lender(rt.alloc(), node, &mut mint).expect(&rt, "memory for a clone");
+    let chain = lent.expect(&rt, "a receipt");
+    assert!(rt; whole_of_less(&chain) && shows(&chain, "ab"));
 }
 
 // Has a chain absorb a receipt of a storage that it doesn't have.
@@ -58,40 +58,25 @@ fn absorbs_other(chain: &mut Chain<'static>, receipt: Receipt) -> Result<(), Rec
 }
 
 #[test]
-fn other_receipts_are_handed_back(rt: HostRuntime) -> Result<(), Fail> {
-    let alloc = rt.alloc();
+fn other_receipts_are_handed_back(rt: HostRuntime) {
     let mut mint = Mint::new();
-    let mut chain = chain_of(alloc, &[Wrapped(b"xy"), Tight(b"a")], &mut mint)?;
-    let other = copied(alloc, b"b", false, &mut mint)?;
-    let Some(receipt) = other.give_back().receipt() else {
-        return Ok(Err(Unexpected)?);
-    };
+    let mut chain = chain_of(&rt, rt.alloc(), "&xy|a", &mut mint);
+    let other = copied(&rt, rt.alloc(), b"b", (0, 0), &mut mint);
+    let receipt = other.give_back().receipt().expect(&rt, "a receipt");
     let number = receipt.number();
-    match absorbs_other(&mut chain, receipt) {
-        Err(receipt) => assert!(rt; receipt.number() == number && receipt.lasts() == 1),
-        Ok(()) => Err(Unexpected)?,
-    }
-    assert!(rt; shows(&chain, &[b"xy", b"a"]));
-    Ok(())
+    let same = absorbs_other(&mut chain, receipt).expect_err(&rt, "the receipt");
+    assert!(rt; same.number() == number && same.lasts() == 1);
+    assert!(rt; shows(&chain, "xy|a"));
 }
 
 #[test]
-fn wrapped_nodes_are_managed(rt: HostRuntime) -> Result<(), Fail> {
-    let alloc = rt.alloc();
+fn wrapped_nodes_are_managed(rt: HostRuntime) {
     let mut mint = Mint::new();
-    let chain = chain_of(
-        alloc,
-        &[Wrapped(b"xy"), Roomy(b"a"), Wrapped(b""), Tight(b"b")],
-        &mut mint,
-    )?;
-    assert!(rt; chain.node(0).number().is_none());
-    let Ok(managed) = chain.into_managed(alloc, &mut mint) else {
-        return Ok(Err(Unexpected)?);
-    };
-    assert!(rt; shows(&managed, &[b"xy", b"a", b"", b"b"]) && !managed.is_shared());
-    let numbers = [2, 0, 3, 1];
-    for i in 0..4 {
-        assert!(rt; i < managed.elements() && managed.node(i).number() == Some(numbers[i]));
-    }
-    Ok(())
+    let chain = chain_of(&rt, rt.alloc(), "&xy|+a|&|b", &mut mint);
+    assert!(rt; numbered(&chain, &[None, Some(0), None, Some(1)]));
+    let managed = chain
+        .into_managed(rt.alloc(), &mut mint)
+        .expect(&rt, "managed nodes");
+    assert!(rt; shows(&managed, "xy|a||b") && !managed.is_shared());
+    assert!(rt; numbered(&managed, &[Some(2), Some(0), Some(3), Some(1)]));
 }
