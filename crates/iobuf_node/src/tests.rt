@@ -5,16 +5,33 @@ mod windows;
 
 use crate::IoBuf;
 use std::mem::size_of;
+use std::process::Abort;
 use std::test::Fail;
-use storage::Owner;
-
-// An answer that isn't the one that was looked for.
-#[derive(Debug, Drop)]
-struct Unexpected;
+use storage::{Back, Owner, Told};
 
 // The rooms and the data of a node.
 fn shows(node: &IoBuf<'_>, head: usize, data: &[u8], tail: usize) -> bool {
     node.headroom() == head && node.bytes() == data && node.tailroom() == tail
+}
+
+// What came back, in a word.
+fn word<O: Told>(back: Option<Back<O>>) -> &'static str {
+    match back {
+        Some(Back::Kept(_)) => "kept",
+        Some(Back::Done(_)) => "done",
+        Some(Back::Ran(..)) => "ran",
+        Some(Back::Lent(..)) => "lent",
+        Some(Back::Tag(7, _)) => "tag 7",
+        Some(Back::Tag(..)) => "another tag",
+        Some(Back::Nothing) => "nothing",
+        None => "none",
+    }
+}
+
+// Writes `z` over the data of a node that is alone.
+fn fill(rt: &impl Abort, node: &mut IoBuf<'_>) {
+    let mine = node.mine().expect(rt, "a node that is alone");
+    mine.bytes_mut().fill(b'z');
 }
 
 // A node is moved for each frame.

@@ -1,10 +1,10 @@
 use crate::IoBuf;
-use crate::tests::Unexpected;
-use crate::tests::owners::Teller;
+use crate::tests::owners::owned;
 use share_count::Mint;
+use std::alloc::Global;
+use std::process::Abort;
 use std::sync::Arc;
 use std::sync::atomic::{AtomicU64, Ordering};
-use std::test::Fail;
 use std::thread::map_vec;
 use storage::Owner;
 
@@ -34,27 +34,38 @@ fn reads_or_drops((byte, node): (u8, IoBuf<'static, Owner>)) -> usize {
     count
 }
 
-#[test]
-fn four_read_while_a_fifth_drops(rt: HostRuntime) -> Result<(), Fail> {
-    let alloc = rt.alloc();
-    let mut mint = Mint::new();
-    let word = Arc::new(alloc, AtomicU64::new(0))?;
-    let bytes = Vec::from_slice(alloc, &[3; 200])?;
-    let taken = IoBuf::take_ownership(alloc, bytes, Teller::boxed(alloc, &word)?, &mut mint);
-    let Ok(mut node) = taken else {
-        return Err(Fail::from(Unexpected));
-    };
+// Four clones that look for a byte, and the node itself, which looks for none.
+fn jobs(
+    rt: &impl Abort,
+    alloc: Global,
+    byte: u8,
+    mut node: IoBuf<'static, Owner>,
+    mint: &mut Mint,
+) -> Vec<(u8, IoBuf<'static, Owner>), Global> {
     let mut jobs = Vec::new(alloc);
     for _ in 0..4 {
-        jobs.push((3u8, node.clone_one(alloc, &mut mint)?))?;
+        let clone = node.clone_one(alloc, mint).expect(rt, "a clone");
+        jobs.push((byte, clone)).expect(rt, "memory for a list");
     }
-    // The fifth reads nothing.
-    jobs.push((0, owned_nodes(node)))?;
-    let found = map_vec(&rt, jobs, &|job| reads_or_drops(job))?;
-    assert!(rt; found.as_slice() == [20_000, 20_000, 20_000, 20_000, 0].as_slice());
-    assert!(rt; word.load(Ordering::SeqCst) == (1 << 32) + 200);
+    jobs.push((0, owned_nodes(node)))
+        .expect(rt, "memory for a list");
+    jobs
+}
 
-    let node = nodes(IoBuf::create(alloc, 1, &mut mint)?);
-    assert_eq!(rt; node.tailroom(), 1);
-    Ok(())
+#[test]
+fn four_read_while_a_fifth_drops(rt: HostRuntime) {
+    let alloc = rt.alloc();
+    let mut mint = Mint::new();
+    let told = Arc::new(alloc, AtomicU64::new(0)).expect(&rt, "memory for a word");
+    let node = owned(&rt, alloc, &[3; 200], &told, &mut mint);
+    let jobs = jobs(&rt, alloc, 3, node, &mut mint);
+    let found = map_vec(&rt, jobs, &|job| reads_or_drops(job)).expect(&rt, "threads");
+    assert!(rt; found.as_slice() == [20_000, 20_000, 20_000, 20_000, 0].as_slice());
+    assert!(rt; told.load(Ordering::SeqCst) == (1 << 32) + 200);
+}
+
+#[test]
+fn nodes_without_owners_move(rt: HostRuntime) {
+    let made = IoBuf::create(rt.alloc(), 1, &mut Mint::new()).expect(&rt, "memory for a node");
+    assert!(rt; nodes(made).tailroom() == 1);
 }

@@ -1,10 +1,9 @@
 use crate::IoBuf;
-use crate::tests::{Unexpected, shows};
+use crate::tests::fill;
 use relay_ports::Lent;
 use share_count::Mint;
 use std::alloc::Global;
 use std::process::Abort;
-use std::test::Fail;
 
 #[derive(Clone, Copy)]
 enum Call {
@@ -23,30 +22,18 @@ fn window(
     start: usize,
     end: usize,
     mint: &mut Mint,
-) -> Result<IoBuf<'static>, Unexpected> {
-    let bytes = Vec::from_slice(alloc, b"abcdef").map_err(|_| Unexpected)?;
-    let node: Result<IoBuf<'static>, Lent> = IoBuf::from_lent(
-        alloc,
-        Lent { number: 0, bytes },
-        6,
-        mint,
-    );
-    let Ok(mut node) = node else {
-        return Err(Unexpected);
-    };
+) -> IoBuf<'static> {
+    let bytes = Vec::from_slice(alloc, b"abcdef").expect(rt, "memory for bytes");
+    let lent = IoBuf::from_lent(alloc, Lent { number: 0, bytes }, 6, mint);
+    let mut node = lent.expect(rt, "memory for a node");
     assert!(rt; start <= end && end <= 6);
     node.trim_start(start);
     node.trim_end(6 - end);
-    Ok(node)
+    node
 }
 
 // Makes the call with `n`, which fits.
-fn make(
-    rt: &impl Abort,
-    node: &mut IoBuf<'static>,
-    call: Call,
-    n: usize,
-) -> Result<(), Unexpected> {
+fn make(rt: &impl Abort, node: &mut IoBuf<'static>, call: Call, n: usize) {
     match call {
         Call::TrimStart => {
             assert!(rt; n <= node.length());
@@ -66,20 +53,13 @@ fn make(
         }
         Call::Advance => {
             assert!(rt; n <= node.tailroom());
-            match node.mine() {
-                Ok(mine) => mine.advance(n),
-                Err(_) => return Err(Unexpected),
-            }
+            node.mine().expect(rt, "a node that is alone").advance(n);
         }
         Call::Retreat => {
             assert!(rt; n <= node.headroom());
-            match node.mine() {
-                Ok(mine) => mine.retreat(n),
-                Err(_) => return Err(Unexpected),
-            }
+            node.mine().expect(rt, "a node that is alone").retreat(n);
         }
     }
-    Ok(())
 }
 
 // Takes both rooms into the data.
@@ -90,24 +70,44 @@ fn take_rooms(node: &mut IoBuf<'static>) {
     node.append(after);
 }
 
+// Whether a node has these rooms on a block of these six bytes, which all become data.
+fn lies(node: &mut IoBuf<'static>, block: &[u8], head: usize, tail: usize) -> bool {
+    let rooms = node.headroom() == head && node.tailroom() == tail && node.capacity() == 6;
+    take_rooms(node);
+    rooms && node.bytes() == block
+}
+
 #[test]
-fn moves_windows(rt: HostRuntime) -> Result<(), Fail> {
-    let alloc = rt.alloc();
-    let mut mint = Mint::new();
+fn windows_move(rt: HostRuntime) {
+    // Where the window lies, the call and its number, and the rooms afterwards.
+    let rows = [
+        (2, 4, Call::TrimStart, 0, 2, 2),
+        (2, 4, Call::TrimStart, 2, 4, 2),
+        (0, 6, Call::TrimStart, 6, 6, 0),
+        (3, 3, Call::TrimStart, 0, 3, 3),
+        (2, 4, Call::TrimEnd, 1, 2, 3),
+        (2, 4, Call::TrimEnd, 2, 2, 4),
+        (0, 6, Call::TrimEnd, 6, 0, 6),
+        (0, 6, Call::Append, 0, 0, 0),
+        (2, 4, Call::Append, 2, 2, 0),
+        (3, 3, Call::Append, 3, 3, 0),
+        (2, 4, Call::Prepend, 2, 0, 2),
+        (3, 3, Call::Prepend, 3, 0, 3),
+    ];
+    for (start, end, call, n, head, tail) in rows {
+        let mut node = window(&rt, rt.alloc(), start, end, &mut Mint::new());
+        make(&rt, &mut node, call, n);
+        assert!(rt;
+            lies(&mut node, b"abcdef", head, tail),
+            "{n} at {start} up to {end}"
+        );
+    }
+}
+
+#[test]
+fn data_move(rt: HostRuntime) {
     // Where the window lies, the call and its number, and the block and the rooms afterwards.
-    let rows: [(usize, usize, Call, usize, &[u8], usize, usize); 20] = [
-        (2, 4, Call::TrimStart, 0, b"abcdef", 2, 2),
-        (2, 4, Call::TrimStart, 2, b"abcdef", 4, 2),
-        (0, 6, Call::TrimStart, 6, b"abcdef", 6, 0),
-        (3, 3, Call::TrimStart, 0, b"abcdef", 3, 3),
-        (2, 4, Call::TrimEnd, 1, b"abcdef", 2, 3),
-        (2, 4, Call::TrimEnd, 2, b"abcdef", 2, 4),
-        (0, 6, Call::TrimEnd, 6, b"abcdef", 0, 6),
-        (0, 6, Call::Append, 0, b"abcdef", 0, 0),
-        (2, 4, Call::Append, 2, b"abcdef", 2, 0),
-        (3, 3, Call::Append, 3, b"abcdef", 3, 0),
-        (2, 4, Call::Prepend, 2, b"abcdef", 0, 2),
-        (3, 3, Call::Prepend, 3, b"abcdef", 0, 3),
+    let rows: [(usize, usize, Call, usize, &[u8], usize, usize); 8] = [
         (2, 4, Call::Advance, 0, b"abcdef", 2, 2),
         (2, 4, Call::Advance, 1, b"abccdf", 3, 1),
         (0, 4, Call::Advance, 2, b"ababcd", 2, 0),
@@ -117,22 +117,21 @@ fn moves_windows(rt: HostRuntime) -> Result<(), Fail> {
         (3, 3, Call::Retreat, 3, b"abcdef", 0, 6),
         (2, 4, Call::Retreat, 0, b"abcdef", 2, 2),
     ];
-    for &(start, end, call, n, block, head, tail) in &rows {
-        let mut node = window(&rt, alloc, start, end, &mut mint)?;
-        make(&rt, &mut node, call, n)?;
-        assert_eq!(rt; node.headroom(), head);
-        assert_eq!(rt; node.tailroom(), tail);
-        assert_eq!(rt; node.capacity(), 6);
-        take_rooms(&mut node);
-        assert!(rt; node.bytes() == block);
+    for (start, end, call, n, block, head, tail) in rows {
+        let mut node = window(&rt, rt.alloc(), start, end, &mut Mint::new());
+        make(&rt, &mut node, call, n);
+        assert!(rt;
+            lies(&mut node, block, head, tail),
+            "{n} at {start} up to {end}"
+        );
     }
-    let mut node = window(&rt, alloc, 2, 4, &mut mint)?;
-    match node.mine() {
-        Ok(mine) => mine.bytes_mut().fill(b'z'),
-        Err(_) => return Err(Fail::from(Unexpected)),
-    }
+}
+
+#[test]
+fn data_are_written(rt: HostRuntime) {
+    let mut node = window(&rt, rt.alloc(), 2, 4, &mut Mint::new());
+    fill(&rt, &mut node);
     assert!(rt; node.bytes() == b"zz".as_slice());
     take_rooms(&mut node);
     assert!(rt; node.bytes() == b"abzzef".as_slice());
-    Ok(())
 }
