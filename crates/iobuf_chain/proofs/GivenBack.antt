@@ -10,11 +10,23 @@ use Rattle.storage.specs.Back.{GivesBack, stakes_of, stakes_in}
 use Rattle.iobuf_chain.specs.Accounts.{held_by}
 use Rattle.iobuf_chain.proofs.Accounts.{held_by-append}
 
-pub zip_push : {A B : Type 0} (R : A → B → Type 0) (xs : List A) (ys : List B) (x : A) (y : B) → AllZip R xs ys → R x y → AllZip R (xs ++ x ∷ []) (ys ++ y ∷ [])
-zip_push R [] [] x y all r = (r, tt)
-zip_push R [] (z ∷ zs) x y all r = absurd all
-zip_push R (u ∷ us) [] x y all r = absurd all
-zip_push R (u ∷ us) (z ∷ zs) x y all r = (all.0, zip_push R us zs x y all.1 r)
+pub zip_append : {A B : Type 0} (R : A → B → Type 0) (xs ys : List A) (us vs : List B) → AllZip R xs us → AllZip R ys vs → AllZip R (xs ++ ys) (us ++ vs)
+zip_append R [] ys [] vs all more = more
+zip_append R [] ys (u ∷ us) vs all more = absurd all
+zip_append R (x ∷ xs) ys [] vs all more = absurd all
+zip_append R (x ∷ xs) ys (u ∷ us) vs all more = (all.0, zip_append R xs ys us vs all.1 more)
+
+pub stakes_in-append : {O : Type 0} (bs cs : List (Back O)) → stakes_in (bs ++ cs) ≡ stakes_in bs ++ stakes_in cs
+stakes_in-append [] cs = refl
+stakes_in-append (b ∷ bs) cs = ap (λ ss. stakes_of b ++ ss) (stakes_in-append bs cs) ∙ sym (append_assoc (stakes_of b) (stakes_in bs) (stakes_in cs))
+
+-- what two lists hand back, one behind the other
+pub totals_both : {O : Type 0} (xs ys : List (Segment O)) (bs cs : List (Back O)) → KeepsTotals (held_by xs) (stakes_in bs) → KeepsTotals (held_by ys) (stakes_in cs)
+    → KeepsTotals (held_by (xs ++ ys)) (stakes_in (bs ++ cs))
+totals_both xs ys bs cs first second =
+    keeps_then _ _ _ (keeps_equal _ _ (held_by-append xs ys))
+    (keeps_then _ _ _ (λ n. keeps-append n (held_by xs) (held_by ys) (stakes_in bs) (stakes_in cs) (first n) (second n))
+    (keeps_equal _ _ (sym (stakes_in-append bs cs))))
 
 module _ {O : Type 0} (runs : O → ℕ) (last : O → Option (List ℕ)) where
   -- of all nodes these are left, and the others handed this back
@@ -27,10 +39,6 @@ module _ {O : Type 0} (runs : O → ℕ) (last : O → Option (List ℕ)) where
   pub hands_begin : (all : List (Segment O)) → HandsBack all all []
   hands_begin all = record { done = []; all_is = refl; backs_are = tt; totals = keeps_same [] }
 
-  stakes_in-push : (bs : List (Back O)) (b : Back O) → stakes_in (bs ++ b ∷ []) ≡ stakes_in bs ++ stakes_of b
-  stakes_in-push [] b = append-nil (stakes_of b)
-  stakes_in-push (x ∷ xs) b = ap (λ ss. stakes_of x ++ ss) (stakes_in-push xs b) ∙ sym (append_assoc (stakes_of x) (stakes_in xs) (stakes_of b))
-
   pub hands_more : (all left rest : List (Segment O)) (backs new : List (Back O)) (x : Segment O) (b : Back O) → HandsBack all left backs
       → left ≡ x ∷ rest → new ≡ backs ++ b ∷ [] → GivesBack runs last (hold_of x) b → KeepsTotals (held x.share ∷ []) (stakes_of b) → HandsBack all rest new
   hands_more all left rest backs new x b h front push gives keeps =
@@ -38,10 +46,8 @@ module _ {O : Type 0} (runs : O → ℕ) (last : O → Option (List ℕ)) where
       subst P (sym push) record {
         done = h.done ++ x ∷ [];
         all_is = h.all_is ∙ ap (λ xs. h.done ++ xs) front ∙ sym (append_assoc h.done (x ∷ []) rest);
-        backs_are = zip_push _ h.done backs x b h.backs_are gives;
-        totals = keeps_then _ _ _ (keeps_equal _ _ (held_by-append h.done (x ∷ [])))
-            (keeps_then _ _ _ (λ n. keeps-append n (held_by h.done) (held x.share ∷ []) (stakes_in backs) (stakes_of b) (h.totals n) (keeps n))
-            (keeps_equal _ _ (sym (stakes_in-push backs b))));
+        backs_are = zip_append _ h.done (x ∷ []) backs (b ∷ []) h.backs_are (gives, tt);
+        totals = totals_both h.done (x ∷ []) backs (b ∷ []) h.totals (keeps_then _ _ _ keeps (keeps_equal _ _ (sym (append-nil (stakes_of b)))));
       }
 
   pub hands_end : (all : List (Segment O)) (left : List (Segment O)) (backs : List (Back O)) → HandsBack all left backs → left ≡ []

@@ -34,6 +34,23 @@ impl<'a, O: Release> Chain<'a, O> {
         ensures backs { AllZip (λ s b. GivesBack O.runs O.last (hold_of s) b) self.entry result }
         ensures totals { KeepsTotals (held_by self.entry) (stakes_in result) }
     {
+        let (first, rest) = self.into_backs();
+        Returns::from_parts(first, rest)
+    }
+
+    /// Gives back the storages of all nodes, in order, and behind them those of another chain. O(nodes), and no memory.
+    pub fn give_back_with(self, other: Chain<'a, O>) -> Returns<O>
+        ensures backs { AllZip (λ s b. GivesBack O.runs O.last (hold_of s) b) (self.entry ++ other.entry) result }
+        ensures totals { KeepsTotals (held_by (self.entry ++ other.entry)) (stakes_in result) }
+    {
+        Returns::from_two(self.into_backs(), other.into_backs())
+    }
+
+    // What the first node hands back, and what the others do, in order.
+    fn into_backs(self) -> (Back<O>, VecDeque<Back<O>>)
+        ensures backs { AllZip (λ s b. GivesBack O.runs O.last (hold_of s) b) self.entry (result.0 ∷ result.1.items) }
+        ensures totals { KeepsTotals (held_by self.entry) (stakes_in (result.0 ∷ result.1.items)) }
+    {
         let Chain {
             nodes,
             mut room,
@@ -42,7 +59,7 @@ impl<'a, O: Release> Chain<'a, O> {
         let (first, mut rest) = nodes.into_parts();
         let back = first.give_back();
         give_rest_back(&mut rest, &mut room);
-        Returns::from_parts(back, room)
+        (back, room)
     }
 }
 

@@ -2,7 +2,7 @@
 ghost use Rattle.std.specs.Prelude.{◌≡◌, ◌+◌, ◌≤◌, ◌<◌, ◌^◌, ◌↔◌, List, [], ◌∷◌, ◌++◌, IsNone, IfNone, IsOk, IfOk, IfSome, OnOk, OnErr, length, take, drop, slice_get, MatchResult};
 ghost use Rattle.buffer_model.specs.Segment.{bytes_of};
 ghost use Rattle.buffer_model.specs.Stake.{KeepsTotals, KeepsTotalsBelow};
-ghost use Rattle.iobuf_chain.specs.Accounts.{held_by, answered, cut_off};
+ghost use Rattle.iobuf_chain.specs.Accounts.{held_by, answered, answered_if, cut_off};
 ghost use Rattle.iobuf_chain.specs.Lists.{between, without};
 ghost use Rattle.iobuf_chain.specs.Shares.{CutsFirst, SharesFront};
 
@@ -121,6 +121,7 @@ impl<'a, O: Told> Chain<'a, O> {
         ensures stays { IfOk result (λ o. IfNone o (self.new ≡ self.old)) }
         ensures cut { IfOk result (λ o. IfSome o (λ frame. SharesFront k edges.0 edges.1 self.old frame self.new)) }
         ensures refused { OnErr result (self.new ≡ self.old) }
+        ensures totals { KeepsTotals (held_by self.old) (held_by (self.new ++ answered_if result)) }
     {
         let all = self.sum;
         let len = self.nodes.get(0).length();

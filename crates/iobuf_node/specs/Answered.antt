@@ -1,5 +1,5 @@
 -- What a call that may give a storage back answers.
-use Rattle.std.specs.Prelude.{List, [], ◌∷◌, length, Option, Result, Ok, Err}
+use Rattle.std.specs.Prelude.{List, [], ◌∷◌, length, Option, Some, None, Result, Ok, Err}
 use Rattle.buffer_model.specs.Minted.{Numbers}
 use Rattle.buffer_model.specs.Stake.{Stake, held, KeepsTotalsBelow}
 use Rattle.buffer_model.specs.Segment.{Segment}
@@ -19,6 +19,15 @@ answered (Err e) = []
 abbrev pub cloned : {O E : Type 0} → Result (Segment O) E → List (Stake O)
 cloned (Ok node) = held node.share ∷ []
 cloned (Err e) = []
+
+-- the same of a share that may be there
+abbrev pub held_if : {O : Type 0} → Option (Segment O) → List (Stake O)
+held_if None = []
+held_if (Some node) = held node.share ∷ []
+
+abbrev pub shared : {O E : Type 0} → Result (Option (Segment O)) E → List (Stake O)
+shared (Ok share) = held_if share
+shared (Err e) = []
 
 -- the same of a node that comes back in either case
 abbrev pub either_way : {O : Type 0} → Result (Segment O) (Segment O) → List (Stake O)

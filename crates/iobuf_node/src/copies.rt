@@ -2,8 +2,8 @@
 ghost use Rattle.std.specs.Prelude.{◌≡◌, ◌+◌, ◌≤◌, ◌<◌, ◌↔◌, List, [], ◌∷◌, length, None, Ok, IsOk, IsNone, IfNone, IfOk, IfErr, IfSome, OnErr, OnOk, MatchOption, MatchResult};
 ghost use Rattle.buffer_model.specs.Share.{IsManaged};
 ghost use Rattle.buffer_model.specs.Clones.{Clones, MovesOut, SharesPart};
-ghost use Rattle.buffer_model.specs.Stake.{held};
-ghost use Rattle.iobuf_node.specs.Answered.{cloned, either_way, KeepsFor};
+ghost use Rattle.buffer_model.specs.Stake.{held, KeepsTotals};
+ghost use Rattle.iobuf_node.specs.Answered.{cloned, either_way, shared, KeepsFor};
 
 use crate::make::on;
 use crate::mine::Mine;
@@ -33,6 +33,7 @@ impl<'a, O: Told> IoBuf<'a, O> {
         ensures stays { IfOk result (λ o. IfNone o (self.new ≡ self.old)) }
         ensures share { IfOk result (λ o. IfSome o (SharesPart self.old self.new)) }
         ensures refused { OnErr result (self.new ≡ self.old) }
+        ensures totals { KeepsTotals (held self.old.share ∷ []) (held self.new.share ∷ shared result) }
     {
         if self.weight() < 2 {
             return Ok(None);

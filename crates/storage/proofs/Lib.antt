@@ -1,2 +1,3 @@
 pub mod Receipts
 pub mod Made
+pub mod Joined

@@ -3,6 +3,7 @@
 
 mod back;
 mod hold;
+mod listed;
 mod make;
 mod managed;
 mod release;

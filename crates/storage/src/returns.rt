@@ -1,89 +1,99 @@
 //! Lists of what holds handed back.
-ghost use Rattle.std.specs.Prelude.{◌≡◌, ◌<◌, ◌++◌, [], ◌∷◌, length, MatchOption, MatchResult, IfErr, IsOk, OnOk, IsTrue, ◌↔◌};
+ghost use Rattle.std.specs.Prelude.{◌≡◌, ◌-◌, ◌^◌, ◌++◌, [], ◌∷◌, length, min, MatchOption, IsOk, IsTrue, ◌↔◌};
+ghost use Rattle.storage.specs.Listed.{AddsTo};
 
 use crate::back::Back;
+use crate::listed::Listed;
 use crate::release::{NoOwner, Told};
 use std::alloc::Global;
 use std::collections::VecDeque;
+use std::fmt;
 use std::marker::Model;
-use std::{fmt, mem};
 
-/// What holds handed back, first to last. One takes no memory.
+/// What holds handed back, first to last. One takes no memory, and neither does it to put two lists together.
 #[derive(Drop)]
 pub struct Returns<O: Told = NoOwner> {
-    // Where there is none, there are none behind it.
-    first: Option<Back<O>>,
-    rest: VecDeque<Back<O>>,
+    front: Listed<Back<O>>,
+    behind: Listed<Back<O>>,
 }
 
 impl<O: Told> Model for Returns<O> {
-    ghost use Rattle.std.specs.Prelude.{List};
+    ghost use Rattle.std.specs.Prelude.{List, ◌++◌};
     ghost use Rattle.storage.specs.declared.back.Back.{Back};
 
     ghost Value = { List (Back O) };
 
-    ghost use Rattle.storage.specs.Listed.{listed, IsListed};
-
-    ghost view = { λ r. listed r.first r.rest.items };
-
-    ghost invariant = { λ r. IsListed r.first r.rest.items };
+    ghost view = { λ r. r.front ++ r.behind };
 }
 
 impl<O: Told> Returns<O> {
-    ghost use Rattle.storage.specs.Listed.{AddsTo};
-
     /// None yet. Takes no memory.
     pub fn new(alloc: Global) -> Returns<O>
         ensures { result ≡ [] }
     {
-        Returns {
-            first: None,
-            rest: VecDeque::new(alloc),
-        }
+        Returns::of(Listed::new(alloc))
     }
 
     /// These, first to last. No memory.
     pub fn from_backs(backs: VecDeque<Back<O>>) -> Returns<O>
         ensures { result ≡ backs.items }
     {
-        let mut rest = backs;
-        let first = rest.pop_front();
-        Returns { first, rest }
+        Returns::of(Listed::from_items(backs))
     }
 
     /// The first, and the others behind it. No memory.
     pub fn from_parts(first: Back<O>, rest: VecDeque<Back<O>>) -> Returns<O>
         ensures { result ≡ first ∷ rest.items }
     {
+        Returns::of(Listed::from_parts(first, rest))
+    }
+
+    /// Two lists, each by its first and the others behind that. No memory.
+    pub fn from_two(
+        one: (Back<O>, VecDeque<Back<O>>),
+        other: (Back<O>, VecDeque<Back<O>>),
+    ) -> Returns<O>
+        ensures { result ≡ (one.0 ∷ one.1.items) ++ (other.0 ∷ other.1.items) }
+    {
         Returns {
-            first: Some(first),
-            rest,
+            front: Listed::from_parts(one.0, one.1),
+            behind: Listed::from_parts(other.0, other.1),
         }
     }
 
-    /// How many there are.
-    pub fn len(&self) -> usize
-        ensures { result ≡ length self.now }
+    // One list.
+    fn of(front: Listed<Back<O>>) -> Returns<O>
+        ensures { result ≡ front }
     {
-        match self.first {
-            None => 0,
-            Some(_) => self.rest.len() + 1,
+        let alloc = front.allocator();
+        Returns {
+            front,
+            behind: Listed::new(alloc),
         }
+    }
+
+    /// How many there are. It stands still at the type's end.
+    pub fn len(&self) -> usize
+        ensures { result ≡ min (length self.now) (2 ^ 64 - 1) }
+    {
+        self.front.len().saturating_add(self.behind.len())
     }
 
     /// Whether there is none.
     pub fn is_empty(&self) -> bool
         ensures { IsTrue result ↔ (self.now ≡ []) }
     {
-        self.first.is_none()
+        self.front.is_empty() && self.behind.is_empty()
     }
 
     /// Takes the first off. O(1), and no memory.
     pub fn pop(&mut self) -> Option<Back<O>>
         ensures { MatchOption result ((self.old ≡ []) × (self.new ≡ [])) (λ back. self.old ≡ back ∷ self.new) }
     {
-        let next = self.rest.pop_front();
-        mem::replace(&mut self.first, next)
+        match self.front.pop() {
+            Some(back) => Some(back),
+            None => self.behind.pop(),
+        }
     }
 
     /// Adds one at the end. The first takes no memory. At want of memory it is handed back.
@@ -91,42 +101,35 @@ impl<O: Told> Returns<O> {
         ensures added { AddsTo back (back ∷ []) self.old self.new result }
         ensures first { self.old ≡ [] → IsOk result }
     {
-        if self.first.is_none() {
-            self.first = Some(back);
-            return Ok(());
+        if self.behind.is_empty() {
+            return self.front.push(back);
         }
-        match self.rest.push_back(back) {
-            Ok(()) => Ok(()),
-            Err(refused) => Err(refused.value),
-        }
+        self.behind.push(back)
     }
 
-    /// Adds the others at the end, in their order. Takes no memory where one of the two is empty. At want of memory they are handed back.
+    /// Adds the others at the end, in their order. Takes no memory where one of the two is empty. At want of memory
+    /// they are handed back.
     pub fn append(&mut self, other: Returns<O>) -> Result<(), Returns<O>>
         ensures added { AddsTo other other self.old self.new result }
         ensures first { self.old ≡ [] → IsOk result }
         ensures none { other ≡ [] → IsOk result }
     {
-        let Returns { first, mut rest } = other;
-        let Some(first) = first else {
-            return Ok(());
-        };
-        if self.first.is_none() {
-            self.first = Some(first);
-            self.rest = rest;
+        if self.is_empty() {
+            *self = other;
             return Ok(());
         }
-        if let Err(refused) = rest.push_front(first) {
-            return Err(Returns {
-                first: Some(refused.value),
-                rest,
-            });
+        let Returns { mut front, behind } = other;
+        if let Err(behind) = front.append(behind) {
+            return Err(Returns { front, behind });
         }
-        if self.rest.append(&mut rest).is_err() {
-            let first = rest.pop_front();
-            return Err(Returns { first, rest });
+        if self.behind.is_empty() {
+            self.behind = front;
+            return Ok(());
         }
-        Ok(())
+        match self.behind.append(front) {
+            Ok(()) => Ok(()),
+            Err(front) => Err(Returns::of(front)),
+        }
     }
 }
 

@@ -61,3 +61,12 @@ fn chains_are_given_back(rt: HostRuntime) {
     assert!(rt; chain.is_shared());
     assert!(rt; came_back(chain.give_back(), &["done", "done", "nothing"]));
 }
+
+#[test]
+fn two_chains_are_given_back(rt: HostRuntime) {
+    let mut mint = Mint::new();
+    let first = chain_of(&rt, rt.alloc(), "a|&b", &mut mint);
+    let second = chain_of(&rt, rt.alloc(), "&c|d|e", &mut mint);
+    let backs = first.give_back_with(second);
+    assert!(rt; came_back(backs, &["done", "nothing", "nothing", "done", "done"]));
+}

@@ -2,6 +2,7 @@ use crate::tests::Unexpected;
 use crate::tests::owners::Teller;
 use crate::{Back, Hold, Managed, Owner, Receipt, Returns};
 use share_count::Mint;
+use std::alloc::Global;
 use std::sync::Arc;
 use std::sync::atomic::{AtomicU64, Ordering};
 use std::test::Fail;
@@ -75,17 +76,32 @@ fn four_read_while_a_fifth_drops(rt: HostRuntime) -> Result<(), Fail> {
     let found = map_vec(&rt, jobs, &|job| reads_or_drops(job))?;
     assert!(rt; found.as_slice() == [20_000, 20_000, 20_000, 20_000, 0].as_slice());
     assert!(rt; word.load(Ordering::SeqCst) == (1 << 32) + 600);
+    Ok(())
+}
 
+// Whether a value goes into a list.
+fn is_listed(alloc: Global, back: Back<Owner>) -> bool {
+    let mut list = lists(Returns::new(alloc));
+    list.push(back).is_ok()
+}
+
+// How many lasts a managed hold's receipt has.
+fn lasts_of(hold: Managed<Owner>) -> u64 {
+    match managed(hold).give_back().receipt() {
+        Some(receipt) => receipts(receipt).lasts(),
+        None => 0,
+    }
+}
+
+#[test]
+fn each_type_goes_between_threads(rt: HostRuntime) -> Result<(), Fail> {
+    let alloc = rt.alloc();
+    let mut mint = Mint::new();
     let hold = holds(Hold::own(alloc, 1, &mut mint)?);
     assert!(rt; hold.bytes().len() == 1);
     let hold: Hold<'static, Owner> = owned_holds(Hold::own(alloc, 1, &mut mint)?);
-    let back = backs(hold.give_back());
-    assert!(rt; matches!(back, Back::Done(_)));
-    let mut list = lists(Returns::new(alloc));
-    assert!(rt; list.push(back).is_ok());
-    let copied = managed(Managed::copy(alloc, b"a", &mut mint)?);
-    if let Some(receipt) = copied.give_back().receipt() {
-        assert_eq!(rt; receipts(receipt).lasts(), 1);
-    }
+    assert!(rt; is_listed(alloc, backs(hold.give_back())));
+    let copied: Managed<Owner> = Managed::copy(alloc, b"a", &mut mint)?;
+    assert!(rt; lasts_of(copied) == 1);
     Ok(())
 }
