@@ -1,7 +1,7 @@
 //! A first use of the library: the units of a stream that comes in pieces.
 #![tactic(auto)]
 
-ghost use Rattle.std.specs.Prelude.{◌≡◌, ℕ, ◌+◌, ◌<◌, ◌^◌, List, [], ◌++◌, None, flat_map, length, IfOk, OnOk};
+ghost use Rattle.std.specs.Prelude.{◌≡◌, ℕ, ◌+◌, ◌<◌, ◌^◌, List, [], ◌++◌, flat_map, length, IfOk, OnOk};
 ghost use Rattle.frame_head.specs.Units.{ended};
 ghost use Rattle.frame_rule.specs.Decoding.{TakesIn};
 ghost use Rattle.frame_rule.specs.Units.{units_of};
@@ -45,11 +45,9 @@ fn feed_copy<D: Decoder>(
     mint: &mut Mint,
 ) -> Result<(), FeedFault>
     requires room { (D.state decoder.old).fed + length bytes.now < 2 ^ 62 }
-    requires taken { haul.old.refused ≡ None }
     ensures units { OnOk result (TakesIn (D.stands decoder.old) (D.stands decoder.new) (D.state decoder.old).codec
         bytes.now haul.old.units.items haul.new.units.items) }
     ensures codec { OnOk result ((D.state decoder.new).codec ≡ (D.state decoder.old).codec) }
-    ensures taken { OnOk result (haul.new.refused ≡ None) }
 {
     let Ok(node) = IoBuf::copy(alloc, bytes, 0, 0, mint) else {
         return Err(FeedFault::NoMemory);

@@ -1,5 +1,6 @@
 -- Pieces that are taken in, and the end of the stream.
-use Rattle.std.proofs.Common.{◌≡◌, inl, inr, ℕ, ◌-◌, ◌<◌, ◌≤◌, Bool, true, false, List, [], ◌∷◌, ◌++◌, Option, Some, None, Result, Ok, Err, OnOk, length, take, drop, if◌then◌else◌, refl, ap, sym, subst, ◌∙◌, append_assoc, append-nil, arith}
+use Rattle.std.proofs.Common.{◌≡◌, inl, inr, ℕ, ◌+◌, ◌-◌, ◌<◌, ◌≤◌, Bool, true, false, List, [], ◌∷◌, ◌++◌, Option, Some, None, Result, Ok, Err, OnOk, OnErr, length, length-append, take, drop, if◌then◌else◌, refl, ap, sym, subst, ◌∙◌, append_assoc, append-nil, arith}
+use Rattle.std.specs.Result.{is_err}
 use Rattle.std.proofs.lemmas.List.{take_all, take_at, drop_at}
 use Rattle.storage.specs.declared.release.NoOwner.{NoOwner}
 use Rattle.buffer_model.specs.Segment.{Segment, bytes_of}
@@ -8,6 +9,7 @@ use Rattle.buffer_model.proofs.Totals.{keeps_same, keeps_equal, keeps_then, keep
 use Rattle.iobuf_chain.specs.Accounts.{held_by}
 use Rattle.iobuf_chain.specs.Copies.{WithData, CopiesNoData, IsHeavy, IsStout}
 use Rattle.iobuf_chain.proofs.Accounts.{held_by-append}
+use Rattle.iobuf_chain.proofs.Bytes.{bytes_of-append}
 use Rattle.iobuf_chain.proofs.Copied.{each_behind, each_map, own_numbers, heavy_is_stout}
 use Rattle.frame_head.specs.declared.codecs.Codec.{Codec}
 use Rattle.frame_head.specs.Codecs.{last_unit, fault_of}
@@ -19,15 +21,22 @@ use Rattle.frame_rule.specs.declared.unit.FrameUnit.TheVariants.{Frame}
 use Rattle.frame_rule.specs.Scanning.{last_of}
 use Rattle.frame_rule.specs.Decoding.{TakesEnd}
 use Rattle.frame_rule.specs.Units.{units_of, nodes_in}
-use Rattle.frame_rule.specs.Hauls.{Settles, SharesData, hauled, nodes_if, stakes_back}
-use Rattle.frame_rule.specs.Framing.{Framing, StandsFor, Took, Halted, Stands, Passes, Stops, StopsAt, TakesAll, framing}
+use Rattle.frame_rule.specs.Hauls.{Settles, SharesData, all_kept, hauled, nodes_if}
+use Rattle.frame_rule.specs.Framing.{Framing, StandsFor, Took, Halted, Stands, Passes, Stops, StopsAt, TakesAll, framing, framing_of}
 use Rattle.frame_rule.proofs.Steps.{ended_frame, halted_now, kept_at_end, stands_on}
-use Rattle.frame_rule.proofs.Moving.{behind_first, hauled_as, parts_hauled}
 use Rattle.frame_rule.proofs.Passing.{kept_of, open_fed}
 
 pub on_ok : {A E P Q : Type 0} (r : Result A E) → OnOk r P → (P → Q) → OnOk r Q
 on_ok (Ok a) p f = f p
 on_ok (Err e) p f = tt
+
+pub at_ok : {A E P : Type 0} (r : Result A E) → is_err r ≡ false → OnOk r P → P
+at_ok (Ok a) is p = p
+at_ok (Err e) is p = absurd (cc is)
+
+pub at_err : {A E P : Type 0} (r : Result A E) → is_err r ≡ true → OnErr r P → P
+at_err (Ok a) is p = absurd (cc is)
+at_err (Err e) is p = p
 
 none_behind : {X : Type 0} (xs : List X) → drop (length xs) xs ≡ []
 none_behind [] = refl
@@ -37,25 +46,24 @@ none_behind (x ∷ xs) = none_behind xs
 pub front_nodes : (i : ℕ) (kept piece : List (Segment NoOwner)) → i ≡ length kept → (take i (kept ++ piece) ≡ kept) × (drop i (kept ++ piece) ≡ piece)
 front_nodes i kept piece at = (take_at kept piece i (sym at), drop_at kept piece i (sym at))
 
--- the whole piece was refused, and stands in the haul
-pub refused_totals : (m : ℕ) (kept now piece : List (Segment NoOwner)) (h k : Haul) → now ≡ kept → h.refused ≡ None → k ≡ record h { refused = Some piece }
-    → KeepsTotalsBelow m (held_by (kept ++ piece) ++ hauled h) (held_by now ++ hauled k)
-refused_totals m kept now piece h k stay free is n lt =
-    let u : List (Stake NoOwner) = held_by (nodes_in h.units.items) in
-    let b : List (Stake NoOwner) = stakes_back h.back.items in
-    let before : hauled h ≡ parts_hauled h.units.items h.back.items None = hauled_as h h.units.items h.back.items None refl refl free in
-    let after : hauled k ≡ parts_hauled h.units.items h.back.items (Some piece) = ap hauled is in
-    let P : List (Stake NoOwner) → Type 0 = λ w. KeepsTotals (held_by (kept ++ piece) ++ hauled h) (held_by now ++ w) in
-    let Q : List (Stake NoOwner) → Type 0 = λ w. KeepsTotals (held_by (kept ++ piece) ++ w) (held_by now ++ parts_hauled h.units.items h.back.items (Some piece)) in
-    let R : List (Segment NoOwner) → Type 0 = λ w. KeepsTotals (held_by (kept ++ piece) ++ parts_hauled h.units.items h.back.items None) (held_by w ++ parts_hauled h.units.items h.back.items (Some piece)) in
-    let all : KeepsTotals (held_by (kept ++ piece) ++ parts_hauled h.units.items h.back.items None) (held_by kept ++ parts_hauled h.units.items h.back.items (Some piece)) =
-    keeps_then _ _ _ (keeps_equal _ _ (ap (λ w. w ++ (u ++ (b ++ []))) (held_by-append kept piece) ∙ append_assoc (held_by kept) (held_by piece) (u ++ (b ++ []))))
-    (λ i. keeps-append i (held_by kept) (held_by piece ++ (u ++ (b ++ []))) (held_by kept) (u ++ (b ++ held_by piece)) (keeps_same (held_by kept) i)
-    (keeps_then _ _ _ (behind_first (held_by piece) u (b ++ []))
-    (keeps_then _ _ _ (keeps_equal _ _ (append_assoc u (held_by piece) (b ++ [])))
-    (λ j. keeps-append j u (held_by piece ++ (b ++ [])) u (b ++ held_by piece) (keeps_same u j)
-    (keeps_then _ _ _ (behind_first (held_by piece) b []) (keeps_equal _ _ (append-nil (b ++ held_by piece))) j))) i)) in
-    subst P (sym after) (subst Q (sym before) (subst R (sym stay) all)) n
+-- without a refused piece
+pub kept_alone : (kept refused : Option (List (Segment NoOwner))) → refused ≡ None → all_kept kept refused ≡ nodes_if kept
+kept_alone kept refused none = ap (λ w. all_kept kept w) none
+
+pub kept_as : (kept refused k r : Option (List (Segment NoOwner))) → kept ≡ k → refused ≡ r → all_kept kept refused ≡ all_kept k r
+kept_as kept refused k r is other = ap (λ w. all_kept w refused) is ∙ ap (λ w. all_kept k w) other
+
+-- how many bytes are kept
+pub kept_length : (kept refused : Option (List (Segment NoOwner)))
+    → length (bytes_of (nodes_if kept)) + length (bytes_of (nodes_if refused)) ≡ length (bytes_of (all_kept kept refused))
+kept_length kept None = omega arith
+kept_length kept (Some piece) = omega (arith, ap length (bytes_of-append (nodes_if kept) piece), length-append (bytes_of (nodes_if kept)) (bytes_of piece))
+
+-- nothing of a piece was taken, and it is kept behind the nodes that are kept
+pub refused_totals : (m : ℕ) (kept now : Option (List (Segment NoOwner))) (piece refused : List (Segment NoOwner)) (h : Haul) → now ≡ kept → refused ≡ piece
+    → KeepsTotalsBelow m (held_by (nodes_if kept ++ piece) ++ hauled h) (held_by (all_kept now (Some refused)) ++ hauled h)
+refused_totals m kept now piece refused h stay same n lt =
+    keeps_equal _ _ (ap (λ w. held_by (nodes_if w ++ piece) ++ hauled h) (sym stay) ∙ ap (λ w. held_by (nodes_if now ++ w) ++ hauled h) (sym same)) n
 
 -- totals are kept, and then again
 pub totals_then : (m : ℕ) (xs ys zs : List (Stake NoOwner)) → KeepsTotalsBelow m xs ys → KeepsTotals ys zs → KeepsTotalsBelow m xs zs
@@ -224,8 +232,8 @@ module _ {S : Type 0} (codec_of : S → Codec) (saw : S → List ℕ → Type 0)
         some_nodes [] h = h
         some_nodes (x ∷ nodes) h = omega arith
 
-  pub takes_from : (old new : Progress S) (kept after : List (Segment NoOwner)) (p : List ℕ) (h k : Haul) (vs : List FrameUnit) → k ≡ h → TakesAll codec_of saw old new kept after p k.units.items vs → TakesAll codec_of saw old new kept after p h.units.items vs
-  takes_from old new kept after p h k vs stay t = let P : Haul → Type 0 = λ w. TakesAll codec_of saw old new kept after p w.units.items vs in subst P stay t
-
-  pub stops_from : (old new : Progress S) (kept : List (Segment NoOwner)) (p : List ℕ) (h k : Haul) (vs : List FrameUnit) → k ≡ h → StopsAt codec_of saw old new kept p k.units.items vs → StopsAt codec_of saw old new kept p h.units.items vs
-  stops_from old new kept p h k vs stay t = let P : Haul → Type 0 = λ w. StopsAt codec_of saw old new kept p w.units.items vs in subst P stay t
+  -- a decoder that is alive, by its nodes
+  pub alive_as : (p : Progress S) (kept refused : Option (List (Segment NoOwner))) (dead : Bool) (d : Framing S NoOwner) → refused ≡ None → dead ≡ false → framing_of codec_of saw p (all_kept kept refused) dead ≡ d
+      → framing codec_of saw p (nodes_if kept) ≡ d
+  alive_as p kept refused dead d none alive is =
+      ap (λ b. framing_of codec_of saw p (nodes_if kept) b) (sym alive) ∙ ap (λ w. framing_of codec_of saw p w dead) (sym (kept_alone kept refused none)) ∙ is

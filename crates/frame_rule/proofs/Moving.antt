@@ -1,6 +1,6 @@
 -- What is cut off, given back and handed out keeps totals, and shares data.
 use Rattle.std.specs.Option.{is_some}
-use Rattle.std.proofs.Common.{Bool, true, false, not, Result, Ok, Err, OnErr, ◌≡◌, ℕ, zero, suc, ◌-◌, ◌≤◌, List, [], ◌∷◌, ◌++◌, Option, Some, None, length, take, slice_get, refl, ap, sym, subst, ◌∙◌, append_assoc, append-nil, arith, inl, inr, length-drop}
+use Rattle.std.proofs.Common.{Bool, true, false, not, Result, Ok, Err, OnErr, ◌≡◌, ℕ, zero, suc, ◌-◌, ◌≤◌, List, [], ◌∷◌, ◌++◌, Option, Some, None, length, take, slice_get, refl, ap, sym, subst, ◌∙◌, append_assoc, append-nil, arith, inl, inr, length-drop, if◌then◌else◌}
 use Rattle.storage.specs.declared.release.NoOwner.{NoOwner}
 use Rattle.storage.specs.declared.back.Back.{Back}
 use Rattle.storage.specs.Back.{stakes_in}
@@ -18,7 +18,7 @@ use Rattle.frame_rule.specs.declared.haul.Haul.{Haul}
 use Rattle.frame_rule.specs.declared.unit.FrameUnit.{FrameUnit}
 use Rattle.frame_rule.specs.declared.unit.FrameUnit.TheVariants.{Frame, Fault}
 use Rattle.frame_rule.specs.Units.{nodes_in}
-use Rattle.frame_rule.specs.Hauls.{Begins, CutsShare, GivesUp, Moves, NumbersOn, SameHaul, SharesData, hauled, nodes_if, stakes_back}
+use Rattle.frame_rule.specs.Hauls.{Begins, CutsShare, GivesUp, Moves, NumbersOn, SameHaul, SharesData, hauled, stakes_back}
 
 nodes_in-append : (us vs : List FrameUnit) → nodes_in (us ++ vs) ≡ nodes_in us ++ nodes_in vs
 nodes_in-append [] vs = refl
@@ -30,19 +30,21 @@ stakes_back-append [] ss = refl
 stakes_back-append (r ∷ rs) ss = ap (λ w. stakes_in r ++ w) (stakes_back-append rs ss) ∙ sym (append_assoc (stakes_in r) (stakes_back rs) (stakes_back ss))
 
 -- what a haul of these parts has
-abbrev pub parts_hauled : List FrameUnit → List (List (Back NoOwner)) → Option (List (Segment NoOwner)) → List (Stake NoOwner)
-parts_hauled us bs piece = held_by (nodes_in us) ++ (stakes_back bs ++ held_by (nodes_if piece))
+abbrev pub parts_hauled : List FrameUnit → List (List (Back NoOwner)) → List (Stake NoOwner)
+parts_hauled us bs = held_by (nodes_in us) ++ stakes_back bs
 
-pub hauled_as : (k : Haul) (us : List FrameUnit) (bs : List (List (Back NoOwner))) (piece : Option (List (Segment NoOwner)))
-    → k.units.items ≡ us → k.back.items ≡ bs → k.refused ≡ piece → hauled k ≡ parts_hauled us bs piece
-hauled_as k us bs piece u b p =
-    ap (λ w. parts_hauled w k.back.items k.refused) u ∙ ap (λ w. parts_hauled us w k.refused) b ∙ ap (λ w. parts_hauled us bs w) p
+pub hauled_as : (k : Haul) (us : List FrameUnit) (bs : List (List (Back NoOwner))) → k.units.items ≡ us → k.back.items ≡ bs → hauled k ≡ parts_hauled us bs
+hauled_as k us bs u b = ap (λ w. parts_hauled w k.back.items) u ∙ ap (λ w. parts_hauled us w) b
 
 pub same_hauled : (h k : Haul) → SameHaul h k → hauled k ≡ hauled h
-same_hauled h k same = hauled_as k h.units.items h.back.items h.refused same.0 same.1 same.2
+same_hauled h k same = hauled_as k h.units.items h.back.items same.0 same.1
 
 pub begins_same : {X : Type 0} (xs ys : List X) → ys ≡ xs → Begins xs ys
 begins_same xs ys e = record { added = []; longer_is = e ∙ sym (append-nil xs) }
+
+pub begins_where : {X : Type 0} (b : Bool) (xs ys : List X) (x : X) → ys ≡ (if b then xs ++ x ∷ [] else xs) → Begins xs ys
+begins_where true xs ys x e = record { added = x ∷ []; longer_is = e }
+begins_where false xs ys x e = begins_same xs ys e
 
 pub begins_further : {X : Type 0} (xs ys zs : List X) → Begins xs ys → Begins ys zs → Begins xs zs
 begins_further xs ys zs p q = record { added = p.added ++ q.added; longer_is = q.longer_is ∙ ap (λ w. w ++ q.added) p.longer_is ∙ append_assoc xs p.added q.added }
@@ -65,35 +67,38 @@ behind_first x u w n = record {
 beside_first : (u v w : List (Stake NoOwner)) → KeepsTotals v w → KeepsTotals (u ++ v) (u ++ w)
 beside_first u v w keeps n = keeps-append n u v u w (keeps_same u n) (keeps n)
 
-behind_second : (x u b q : List (Stake NoOwner)) → KeepsTotals (x ++ (u ++ (b ++ q))) (u ++ ((b ++ x) ++ q))
-behind_second x u b q =
-    keeps_then _ _ _ (behind_first x u (b ++ q))
-    (keeps_then _ _ _ (keeps_equal _ _ (append_assoc u x (b ++ q))) (beside_first u (x ++ (b ++ q)) ((b ++ x) ++ q) (behind_first x b q)))
+swapped : (x b : List (Stake NoOwner)) → KeepsTotals (x ++ b) (b ++ x)
+swapped x b =
+    keeps_then _ _ _ (keeps_equal _ _ (ap (λ w. x ++ w) (sym (append-nil b))))
+    (keeps_then _ _ _ (behind_first x b []) (keeps_equal _ _ (append-nil (b ++ x))))
+
+behind_second : (x u b : List (Stake NoOwner)) → KeepsTotals (x ++ (u ++ b)) (u ++ (b ++ x))
+behind_second x u b =
+    keeps_then _ _ _ (behind_first x u b)
+    (keeps_then _ _ _ (keeps_equal _ _ (append_assoc u x b)) (beside_first u (x ++ b) (b ++ x) (swapped x b)))
 
 -- what nodes hand back comes behind all that was handed back before
-pub returned_hauled : (h k : Haul) (r : List (Back NoOwner)) → k.units.items ≡ h.units.items → k.back.items ≡ h.back.items ++ r ∷ [] → k.refused ≡ h.refused
-    → KeepsTotals (stakes_in r ++ hauled h) (hauled k)
-returned_hauled h k r u b p =
-    let q : List (Stake NoOwner) = held_by (nodes_if h.refused) in
-    keeps_then _ _ _ (behind_second (stakes_in r) (held_by (nodes_in h.units.items)) (stakes_back h.back.items) q)
-    (keeps_equal _ _ (ap (λ w. held_by (nodes_in h.units.items) ++ ((stakes_back h.back.items ++ w) ++ q)) (sym (append-nil (stakes_in r)))
-    ∙ ap (λ w. held_by (nodes_in h.units.items) ++ (w ++ q)) (sym (stakes_back-append h.back.items (r ∷ []))) ∙ sym (hauled_as k h.units.items (h.back.items ++ r ∷ []) h.refused u b p)))
+pub returned_hauled : (h k : Haul) (r : List (Back NoOwner)) → k.units.items ≡ h.units.items → k.back.items ≡ h.back.items ++ r ∷ [] → KeepsTotals (stakes_in r ++ hauled h) (hauled k)
+returned_hauled h k r u b =
+    let us : List (Stake NoOwner) = held_by (nodes_in h.units.items) in
+    keeps_then _ _ _ (behind_second (stakes_in r) us (stakes_back h.back.items))
+    (keeps_equal _ _ (ap (λ w. us ++ (stakes_back h.back.items ++ w)) (sym (append-nil (stakes_in r)))
+    ∙ ap (λ w. us ++ w) (sym (stakes_back-append h.back.items (r ∷ []))) ∙ sym (hauled_as k h.units.items (h.back.items ++ r ∷ []) u b)))
 
 -- a frame comes behind all units before
-pub framed_hauled : (h k : Haul) (at : ℕ) (frame : List (Segment NoOwner)) → k.units.items ≡ h.units.items ++ Frame at frame ∷ [] → k.back.items ≡ h.back.items → k.refused ≡ h.refused
-    → KeepsTotals (held_by frame ++ hauled h) (hauled k)
-framed_hauled h k at frame u b p =
+pub framed_hauled : (h k : Haul) (at : ℕ) (frame : List (Segment NoOwner)) → k.units.items ≡ h.units.items ++ Frame at frame ∷ [] → k.back.items ≡ h.back.items → KeepsTotals (held_by frame ++ hauled h) (hauled k)
+framed_hauled h k at frame u b =
     let us : List (Segment NoOwner) = nodes_in h.units.items in
-    let rest : List (Stake NoOwner) = stakes_back h.back.items ++ held_by (nodes_if h.refused) in
+    let rest : List (Stake NoOwner) = stakes_back h.back.items in
     let nodes : nodes_in (h.units.items ++ Frame at frame ∷ []) ≡ us ++ frame = nodes_in-append h.units.items (Frame at frame ∷ []) ∙ ap (λ w. us ++ w) (append-nil frame) in
     keeps_then _ _ _ (behind_first (held_by frame) (held_by us) rest)
-    (keeps_equal _ _ (ap (λ w. w ++ rest) (sym (held_by-append us frame) ∙ ap held_by (sym nodes)) ∙ sym (hauled_as k (h.units.items ++ Frame at frame ∷ []) h.back.items h.refused u b p)))
+    (keeps_equal _ _ (ap (λ w. w ++ rest) (sym (held_by-append us frame) ∙ ap held_by (sym nodes)) ∙ sym (hauled_as k (h.units.items ++ Frame at frame ∷ []) h.back.items u b)))
 
 -- a fault has nothing of a storage
-pub fault_hauled : (h k : Haul) (u : FrameUnit) → nodes_in (u ∷ []) ≡ [] → k.units.items ≡ h.units.items ++ u ∷ [] → k.back.items ≡ h.back.items → k.refused ≡ h.refused → hauled k ≡ hauled h
-fault_hauled h k u none us b p =
-    hauled_as k (h.units.items ++ u ∷ []) h.back.items h.refused us b p
-    ∙ ap (λ w. held_by w ++ (stakes_back h.back.items ++ held_by (nodes_if h.refused))) (nodes_in-append h.units.items (u ∷ []) ∙ ap (λ w. nodes_in h.units.items ++ w) none ∙ append-nil (nodes_in h.units.items))
+pub fault_hauled : (h k : Haul) (u : FrameUnit) → nodes_in (u ∷ []) ≡ [] → k.units.items ≡ h.units.items ++ u ∷ [] → k.back.items ≡ h.back.items → hauled k ≡ hauled h
+fault_hauled h k u none us b =
+    hauled_as k (h.units.items ++ u ∷ []) h.back.items us b
+    ∙ ap (λ w. held_by w ++ stakes_back h.back.items) (nodes_in-append h.units.items (u ∷ []) ∙ ap (λ w. nodes_in h.units.items ++ w) none ∙ append-nil (nodes_in h.units.items))
 
 -- nodes that were cut off went into the haul as something that has as much of each storage
 moved : (m : ℕ) (before after front : List (Segment NoOwner)) (x : List (Stake NoOwner)) (h k : List (Stake NoOwner))
@@ -115,7 +120,6 @@ moves_none m n before after h k keeps numbers same = record {
   totals = moved (length m) before after [] [] (hauled h) (hauled k) keeps (keeps_same []) (keeps_equal _ _ (sym (same_hauled h k same)));
   mint = numbers;
   back = begins_same h.back.items k.back.items same.1;
-  refused = same.2;
 }
 
 pub moves_still : (m n : Numbers) (nodes after : List (Segment NoOwner)) (h k : Haul) → n ≡ m → after ≡ nodes → SameHaul h k → Moves m n nodes after h k
@@ -124,22 +128,20 @@ moves_still m n nodes after h k number stay same =
 
 -- what was cut off is given back
 pub moves_back : (m n : Numbers) (before after front : List (Segment NoOwner)) (h k : Haul) (r : List (Back NoOwner)) → KeepsTotalsBelow (length m) (held_by before) (held_by (after ++ front)) → NumbersOn m n → KeepsTotals (held_by front) (stakes_in r)
-    → k.units.items ≡ h.units.items → k.back.items ≡ h.back.items ++ r ∷ [] → k.refused ≡ h.refused → Moves m n before after h k
-moves_back m n before after front h k r keeps numbers given u b p = record {
-  totals = moved (length m) before after front (stakes_in r) (hauled h) (hauled k) keeps given (returned_hauled h k r u b p);
+    → k.units.items ≡ h.units.items → k.back.items ≡ h.back.items ++ r ∷ [] → Moves m n before after h k
+moves_back m n before after front h k r keeps numbers given u b = record {
+  totals = moved (length m) before after front (stakes_in r) (hauled h) (hauled k) keeps given (returned_hauled h k r u b);
   mint = numbers;
   back = record { added = r ∷ []; longer_is = b };
-  refused = p;
 }
 
 -- what was cut off is a frame
 pub moves_frame : (m n : Numbers) (before after front frame : List (Segment NoOwner)) (h k : Haul) (at : ℕ) → KeepsTotalsBelow (length m) (held_by before) (held_by (after ++ front)) → NumbersOn m n → KeepsTotals (held_by front) (held_by frame)
-    → k.units.items ≡ h.units.items ++ Frame at frame ∷ [] → k.back.items ≡ h.back.items → k.refused ≡ h.refused → Moves m n before after h k
-moves_frame m n before after front frame h k at keeps numbers given u b p = record {
-  totals = moved (length m) before after front (held_by frame) (hauled h) (hauled k) keeps given (framed_hauled h k at frame u b p);
+    → k.units.items ≡ h.units.items ++ Frame at frame ∷ [] → k.back.items ≡ h.back.items → Moves m n before after h k
+moves_frame m n before after front frame h k at keeps numbers given u b = record {
+  totals = moved (length m) before after front (held_by frame) (hauled h) (hauled k) keeps given (framed_hauled h k at frame u b);
   mint = numbers;
   back = begins_same h.back.items k.back.items b;
-  refused = p;
 }
 
 -- one part after another
@@ -148,32 +150,29 @@ moves_further a b c x y z h k l p q = record {
   totals = keeps_below_then (length a) (length b) _ _ _ p.mint.1 p.totals q.totals;
   mint = numbers_further a b c p.mint q.mint;
   back = begins_further h.back.items k.back.items l.back.items p.back q.back;
-  refused = q.refused ∙ p.refused;
 }
 
--- from a haul of the same units, returns and piece
+-- from a haul of the same units and returns
 pub moves_from : (a b : Numbers) (x y : List (Segment NoOwner)) (h k l : Haul) → SameHaul h k → Moves a b x y k l → Moves a b x y h l
 moves_from a b x y h k l same p = moves_further a a b x x y h k l (moves_still a a x x h k refl refl same) p
 
 -- a haul that gains nothing of a storage, and nothing that was handed back
-pub moves_on : (a b : Numbers) (x y : List (Segment NoOwner)) (h k l : Haul) → Moves a b x y h k → hauled l ≡ hauled k → l.back.items ≡ k.back.items → l.refused ≡ k.refused → Moves a b x y h l
-moves_on a b x y h k l p same back piece = record {
+pub moves_on : (a b : Numbers) (x y : List (Segment NoOwner)) (h k l : Haul) → Moves a b x y h k → hauled l ≡ hauled k → l.back.items ≡ k.back.items → Moves a b x y h l
+moves_on a b x y h k l p same back = record {
   totals = let P : List (Stake NoOwner) → Type 0 = λ w. KeepsTotalsBelow (length a) (held_by x ++ hauled h) (held_by y ++ w) in subst P (sym same) p.totals;
   mint = p.mint;
   back = begins_further h.back.items k.back.items l.back.items p.back (begins_same k.back.items l.back.items back);
-  refused = piece ∙ p.refused;
 }
 
 -- a fault comes behind all units before
 pub moves_fault : (a b : Numbers) (x y : List (Segment NoOwner)) (h k l : Haul) (u : FrameUnit) → Moves a b x y h k → nodes_in (u ∷ []) ≡ []
-    → l.units.items ≡ k.units.items ++ u ∷ [] → l.back.items ≡ k.back.items → l.refused ≡ k.refused → Moves a b x y h l
-moves_fault a b x y h k l u p none us back piece = moves_on a b x y h k l p (fault_hauled k l u none us back piece) back piece
+    → l.units.items ≡ k.units.items ++ u ∷ [] → l.back.items ≡ k.back.items → Moves a b x y h l
+moves_fault a b x y h k l u p none us back = moves_on a b x y h k l p (fault_hauled k l u none us back) back
 
 -- a chain without a storage has nothing of one
 pub gives_up_nothing : (s : Segment NoOwner) (nodes : List (Segment NoOwner)) (h k : Haul) → nodes ≡ s ∷ [] → s.share.number ≡ None → SameHaul h k → GivesUp nodes h k
 gives_up_nothing s nodes h k is none same = record {
   units = same.0;
-  refused = same.2;
   back = begins_same h.back.items k.back.items same.1;
   totals = λ n.
       let P : List (Segment NoOwner) → Type 0 = λ w. Keeps (held_by w ++ hauled h) (hauled h) n in
@@ -181,12 +180,11 @@ gives_up_nothing s nodes h k is none same = record {
       subst Q (sym (same_hauled h k same)) (subst P (sym is) (keeps-append n (held_by (s ∷ [])) (hauled h) [] (hauled h) (keeps_wrapped_out s.share none n) (keeps_same (hauled h) n)));
 }
 
-pub gives_up_back : (nodes : List (Segment NoOwner)) (h k : Haul) (r : List (Back NoOwner)) → KeepsTotals (held_by nodes) (stakes_in r) → k.units.items ≡ h.units.items → k.back.items ≡ h.back.items ++ r ∷ [] → k.refused ≡ h.refused → GivesUp nodes h k
-gives_up_back nodes h k r given u b p = record {
+pub gives_up_back : (nodes : List (Segment NoOwner)) (h k : Haul) (r : List (Back NoOwner)) → KeepsTotals (held_by nodes) (stakes_in r) → k.units.items ≡ h.units.items → k.back.items ≡ h.back.items ++ r ∷ [] → GivesUp nodes h k
+gives_up_back nodes h k r given u b = record {
   units = u;
-  refused = p;
   back = record { added = r ∷ []; longer_is = b };
-  totals = λ n. (keeps_then _ _ _ (λ i. keeps-append i (held_by nodes) (hauled h) (stakes_in r) (hauled h) (given i) (keeps_same (hauled h) i)) (returned_hauled h k r u b p)) n;
+  totals = λ n. (keeps_then _ _ _ (λ i. keeps-append i (held_by nodes) (hauled h) (stakes_in r) (hauled h) (given i) (keeps_same (hauled h) i)) (returned_hauled h k r u b)) n;
 }
 
 -- a number that nodes with data have, of which each has one that was there, was there

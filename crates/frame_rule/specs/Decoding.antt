@@ -29,10 +29,10 @@ Fed n old new (Err NoMemory) =
 Fed n old new (Err Dead) = (old.dead ≡ true) × (new ≡ old)
 
 -- a decoder before and after the end of the stream, and the answer: it keeps nothing and is dead; or memory was
--- refused, and it is dead; or it was dead before, and nothing changed
+-- refused, and it is dead and keeps what it kept; or it was dead before, and nothing changed
 abbrev pub Ended : {U : Type 0} → Decoding → Decoding → Result U FeedFault → Type 0
 Ended old new (Ok u) = (old.dead ≡ false) × (new ≡ record old { kept = []; dead = true })
-Ended old new (Err NoMemory) = (old.dead ≡ false) × (new ≡ record old { kept = new.kept; dead = true })
+Ended old new (Err NoMemory) = (old.dead ≡ false) × (new ≡ record old { dead = true })
 Ended old new (Err Dead) = (old.dead ≡ true) × (new ≡ old)
 
 -- a decoder that stood for some bytes took the bytes p: it stands for both, and exactly the units were added that p

@@ -1,5 +1,5 @@
 -- What a decoder keeps, and the streams for which it stands.
-use Rattle.std.specs.Prelude.{◌≡◌, ℕ, ◌+◌, ◌<◌, ◌≤◌, Bool, true, false, List, [], ◌++◌, length, take, drop}
+use Rattle.std.specs.Prelude.{◌≡◌, ℕ, ◌+◌, ◌^◌, ◌<◌, ◌≤◌, Bool, true, false, List, [], ◌++◌, Option, Some, None, length, take, drop, if◌then◌else◌}
 use Rattle.buffer_model.specs.Segment.{Segment, bytes_of}
 use Rattle.frame_head.specs.declared.codecs.Codec.{Codec}
 use Rattle.frame_head.specs.Heads.{FramingUnit}
@@ -55,6 +55,10 @@ module _ {S O : Type 0} (codec_of : S → Codec) (saw : S → List ℕ → Type 
         × (units (codec_of old.scanner) (h ++ p) ≡ (units (codec_of old.scanner) h ++ added) ++ missing)
     pub codec : codec_of new.scanner ≡ codec_of old.scanner
     pub dead : new.dead ≡ true
+
+-- how many bytes of the open unit are kept
+abbrev pub kept_size : {S : Type 0} → Progress S → ℕ
+kept_size p = if p.lost then 0 else p.unread
 
 module _ {S : Type 0} (codec_of : S → Codec) (saw : S → List ℕ → Type 0) where
   -- a decoder by how far its stream was scanned, and by the nodes of the open unit
@@ -115,6 +119,11 @@ module _ {S : Type 0} (codec_of : S → Codec) (saw : S → List ℕ → Type 0)
   -- a decoder as it is seen in its crate
   abbrev pub framing_of : Progress S → List (Segment NoOwner) → Bool → Framing S NoOwner
   framing_of p nodes dead = record (framing p nodes) { dead = dead }
+
+-- a piece that was refused has a size together with what is kept before it
+abbrev pub FitsBehind : List (Segment NoOwner) → Option (List (Segment NoOwner)) → Type 0
+FitsBehind kept None = Unit {0}
+FitsBehind kept (Some piece) = length (bytes_of kept) + length (bytes_of piece) < 2 ^ 64
 
 -- what it is seen as by its users
 abbrev pub decoding_of : {S : Type 0} → (S → Codec) → Framing S NoOwner → Decoding

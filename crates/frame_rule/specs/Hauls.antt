@@ -1,5 +1,5 @@
 -- What a haul has of storages, and what calls put into it.
-use Rattle.std.specs.Prelude.{◌<◌, ◌≡◌, ◌⊎◌, ◌≤◌, List, [], ◌∷◌, ◌++◌, Option, Some, None, length}
+use Rattle.std.specs.Prelude.{◌<◌, ◌≡◌, ◌⊎◌, ◌≤◌, List, [], ◌∷◌, ◌++◌, Option, Some, None, Result, Ok, Err, length}
 use Rattle.std.specs.List.{AllZip}
 use Rattle.storage.specs.declared.release.NoOwner.{NoOwner}
 use Rattle.storage.specs.declared.back.Back.{Back}
@@ -18,14 +18,24 @@ abbrev pub stakes_back : List (List (Back NoOwner)) → List (Stake NoOwner)
 stakes_back [] = []
 stakes_back (r ∷ rs) = stakes_in r ++ stakes_back rs
 
--- the nodes of a piece that may be there
+-- the nodes of a chain that may be there
 abbrev pub nodes_if : Option (List (Segment NoOwner)) → List (Segment NoOwner)
 nodes_if None = []
 nodes_if (Some nodes) = nodes
 
--- what a haul has of storages: by its frames, by what was handed back, and by a piece that was refused
+-- the nodes that are kept, and behind them those of a piece that was refused
+abbrev pub all_kept : Option (List (Segment NoOwner)) → Option (List (Segment NoOwner)) → List (Segment NoOwner)
+all_kept kept None = nodes_if kept
+all_kept kept (Some piece) = nodes_if kept ++ piece
+
+-- the piece that was refused, if one was
+abbrev pub refused_in : {U : Type 0} → Result U (Option (List (Segment NoOwner))) → Option (List (Segment NoOwner))
+refused_in (Ok u) = None
+refused_in (Err piece) = piece
+
+-- what a haul has of storages: by its frames, and by what was handed back
 abbrev pub hauled : Haul → List (Stake NoOwner)
-hauled h = held_by (nodes_in h.units.items) ++ (stakes_back h.back.items ++ held_by (nodes_if h.refused))
+hauled h = held_by (nodes_in h.units.items) ++ stakes_back h.back.items
 
 -- `longer` is `shorter` with something added at its end
 pub record Begins {X : Type 0} (shorter longer : List X) : Type 0 where
@@ -36,15 +46,13 @@ pub record Begins {X : Type 0} (shorter longer : List X) : Type 0 where
 abbrev pub AreReturns : List (Segment NoOwner) → List (Back NoOwner) → Type 0
 AreReturns nodes backs = AllZip (λ s b. GivesBack (λ (n : NoOwner). n.runs) (λ n. None) (hold_of s) b) nodes backs
 
--- a haul of the same units, returns and piece
+-- a haul of the same units and returns
 abbrev pub SameHaul : Haul → Haul → Type 0
-SameHaul old new =
-    (new.units.items ≡ old.units.items) × (new.back.items ≡ old.back.items) × (new.refused ≡ old.refused)
+SameHaul old new = (new.units.items ≡ old.units.items) × (new.back.items ≡ old.back.items)
 
 -- a haul before and after a dead decoder was fed a piece: what that handed back was added where there was room
 pub record ReturnsPiece (piece : List (Segment NoOwner)) (old new : Haul) : Type 0 where
   pub units : new.units.items ≡ old.units.items
-  pub refused : new.refused ≡ old.refused
   pub back : (new.back.items ≡ old.back.items)
       ⊎ ((backs : List (Back NoOwner)) × AreReturns piece backs × (new.back.items ≡ old.back.items ++ backs ∷ []))
 
@@ -66,7 +74,6 @@ pub record Moves (old new : Numbers) (before after : List (Segment NoOwner)) (ha
   pub totals : KeepsTotalsBelow (length old) (held_by before ++ hauled haul) (held_by after ++ hauled now)
   pub mint : NumbersOn old new
   pub back : Begins haul.back.items now.back.items
-  pub refused : now.refused ≡ haul.refused
 
 -- nodes that were cut off, and those that stay: no data was copied, they can still be shared, and these can still be
 -- cut
@@ -79,7 +86,6 @@ pub record CutsShare (had front rest : List (Segment NoOwner)) : Type 0 where
 -- what nodes hand back was added to a haul, or there was no storage under them
 pub record GivesUp (nodes : List (Segment NoOwner)) (old new : Haul) : Type 0 where
   pub units : new.units.items ≡ old.units.items
-  pub refused : new.refused ≡ old.refused
   pub back : Begins old.back.items new.back.items
   pub totals : KeepsTotals (held_by nodes ++ hauled old) (hauled new)
 

@@ -38,10 +38,9 @@ pub trait Decoder: Send + Drop {
     /// Takes the next piece of the stream, and adds the units that it makes whole to the haul. Nodes whose bytes are
     /// used up are given back, into the haul too.
     ///
-    /// Linear in the bytes and the nodes of the piece. After `NoMemory` the first of the new units were added, the
-    /// decoder is dead, and it keeps what is left of the piece, or the whole piece stands in the haul's `refused`.
-    /// `Dead` comes exactly where the decoder was dead before; what the piece hands back is then added to the haul
-    /// where there is room, and dropped otherwise.
+    /// Linear in the bytes and the nodes of the piece. After `NoMemory` the first of the new units were added, and the
+    /// decoder is dead and keeps what is left of the piece. `Dead` comes exactly where the decoder was dead before; what
+    /// the piece hands back is then added to the haul where there is room, and dropped otherwise.
     fn feed(
         &mut self,
         alloc: Global,
@@ -50,7 +49,6 @@ pub trait Decoder: Send + Drop {
         mint: &mut Mint,
     ) -> Result<(), FeedFault>
         requires room { (state self.old).fed + length (bytes_of piece) < 2 ^ 62 }
-        requires taken { haul.old.refused ≡ None }
         ensures state { Fed (length (bytes_of piece.entry)) (state self.old) (state self.new) result }
         ensures units { OnOk result (TakesIn (stands self.old) (stands self.new) (state self.old).codec
             (bytes_of piece.entry) haul.old.units.items haul.new.units.items) }
@@ -59,7 +57,6 @@ pub trait Decoder: Send + Drop {
         ensures dead { IsErrOf result FeedFault.Dead ↔ IsTrue (state self.old).dead }
         ensures returned { IsErrOf result FeedFault.Dead → ReturnsPiece piece.entry haul.old haul.new }
         ensures back { Begins haul.old.back.items haul.new.back.items }
-        ensures refused { OnOk result (haul.new.refused ≡ None) }
         ensures used { OnOk result (bytes_of (state self.new).kept ≡ [] → (state self.new).kept ≡ []) }
         ensures bounded { OnOk result (length (bytes_of (state self.new).kept) ≤ most_kept (state self.new).codec) }
         ensures totals { (state self.old).dead ≡ false → KeepsTotalsBelow (length mint.old)
@@ -79,7 +76,6 @@ pub trait Decoder: Send + Drop {
         ensures dead { IsErrOf result FeedFault.Dead ↔ IsTrue (state self.old).dead }
         ensures returned { IsErrOf result FeedFault.Dead → SameHaul haul.old haul.new }
         ensures back { Begins haul.old.back.items haul.new.back.items }
-        ensures refused { haul.new.refused ≡ haul.old.refused }
         ensures totals { (state self.old).dead ≡ false → KeepsTotalsBelow (length mint.old)
             (held_by (state self.old).kept ++ hauled haul.old) (held_by (state self.new).kept ++ hauled haul.new) }
         ensures copies { WithData IsHeavy (state self.old).kept → OnOk result (SharesData

@@ -1,12 +1,13 @@
 //! A piece that is taken in behind the nodes that are kept, and the end of the stream.
-ghost use Rattle.std.specs.Prelude.{◌≡◌, ◌+◌, ◌≤◌, ◌<◌, ◌^◌, [], ◌∷◌, ◌++◌, None, Some, IfOk, OnOk, OnErr, length};
+ghost use Rattle.std.specs.Prelude.{◌≡◌, ◌+◌, ◌≤◌, ◌<◌, ◌^◌, [], ◌∷◌, ◌++◌, None, Some, IfErr, IfOk, OnOk, OnErr, length};
 ghost use Rattle.buffer_model.specs.Segment.{bytes_of};
 ghost use Rattle.buffer_model.specs.Stake.{KeepsTotals, KeepsTotalsBelow};
 ghost use Rattle.iobuf_chain.specs.Accounts.{held_by};
 ghost use Rattle.iobuf_chain.specs.Copies.{IsHeavy, WithData};
 ghost use Rattle.frame_rule.specs.Decoding.{TakesEnd};
-ghost use Rattle.frame_rule.specs.Framing.{Stands, StandsFor, StopsAt, TakesAll, framing};
-ghost use Rattle.frame_rule.specs.Hauls.{Begins, NumbersOn, SameHaul, Settles, SharesData, hauled, nodes_if};
+ghost use Rattle.frame_rule.specs.Framing.{FitsBehind, Stands, StandsFor, StopsAt, TakesAll, framing};
+ghost use Rattle.frame_rule.specs.Hauls.{Begins, NumbersOn, SameHaul, Settles, SharesData};
+ghost use Rattle.frame_rule.specs.Hauls.{all_kept, hauled, nodes_if, refused_in};
 ghost use Rattle.frame_rule.specs.Units.{Gives};
 
 use crate::cuts::give_back;
@@ -19,8 +20,8 @@ use share_count::Mint;
 use std::alloc::{AllocError, Global};
 
 impl<S: Scanner> Progress<S> {
-    /// Takes a piece in behind the nodes that are kept. At want of memory what is left of it is kept, or all of it
-    /// stands in the haul.
+    /// Takes a piece in behind the nodes that are kept. At want of memory what is left of it is kept; or it is handed
+    /// back, where nothing of it was taken since it couldn't be joined to what is kept.
     pub(crate) fn take_in(
         &mut self,
         alloc: Global,
@@ -28,35 +29,35 @@ impl<S: Scanner> Progress<S> {
         piece: Frame,
         haul: &mut Haul,
         mint: &mut Mint,
-    ) -> Result<(), AllocError>
+    ) -> Result<(), Option<Frame>>
         requires stands { Stands S.codec_of S.saw self.old (nodes_if kept.old) }
         requires room { self.old.fed + length (bytes_of piece) < 2 ^ 62 }
-        requires free { haul.old.refused ≡ None }
         ensures took { OnOk result (TakesAll S.codec_of S.saw self.old self.new (nodes_if kept.old) (nodes_if kept.new)
             (bytes_of piece.entry) haul.old.units.items haul.new.units.items) }
         ensures used { OnOk result (bytes_of (nodes_if kept.new) ≡ [] → nodes_if kept.new ≡ []) }
         ensures stops { OnErr result (StopsAt S.codec_of S.saw self.old self.new (nodes_if kept.old)
             (bytes_of piece.entry) haul.old.units.items haul.new.units.items) }
+        ensures refused { FitsBehind (nodes_if kept.new) (refused_in result) }
         ensures totals { KeepsTotalsBelow (length mint.old)
             (held_by (nodes_if kept.old ++ piece.entry) ++ hauled haul.old)
-            (held_by (nodes_if kept.new) ++ hauled haul.new) }
+            (held_by (all_kept kept.new (refused_in result)) ++ hauled haul.new) }
         ensures mint { NumbersOn mint.old mint.new }
         ensures back { Begins haul.old.back.items haul.new.back.items }
-        ensures refused { OnOk result (haul.new.refused ≡ None) }
         ensures shares { WithData IsHeavy (nodes_if kept.old ++ piece.entry) → OnOk result
             (SharesData (nodes_if kept.old ++ piece.entry) (nodes_if kept.new)
             haul.old.units.items haul.new.units.items) }
     {
-        let (mut chain, first) = take_kept(kept, piece, haul)?;
-        match self.pass_all(alloc, &mut chain, first, haul, mint) {
-            Ok(()) => {
-                settle(kept, chain, haul)?;
-                Ok(())
-            }
-            Err(refused) => {
-                *kept = Some(chain);
-                Err(refused)
-            }
+        let (mut chain, first) = match take_kept(kept, piece) {
+            Ok(joined) => joined,
+            Err(piece) => return Err(Some(piece)),
+        };
+        if self.pass_all(alloc, &mut chain, first, haul, mint).is_err() {
+            *kept = Some(chain);
+            return Err(None);
+        }
+        match settle(kept, chain, haul) {
+            Ok(()) => Ok(()),
+            Err(_) => Err(None),
         }
     }
 
@@ -76,7 +77,6 @@ impl<S: Scanner> Progress<S> {
         ensures totals { KeepsTotals (held_by (nodes_if kept.old) ++ hauled haul.old)
             (held_by (nodes_if kept.new) ++ hauled haul.new) }
         ensures back { Begins haul.old.back.items haul.new.back.items }
-        ensures refused { haul.new.refused ≡ haul.old.refused }
         ensures shares { WithData IsHeavy (nodes_if kept.old) → OnOk result
             (SharesData (nodes_if kept.old) [] haul.old.units.items haul.new.units.items) }
     {
@@ -97,18 +97,13 @@ impl<S: Scanner> Progress<S> {
 }
 
 // A piece behind the nodes that are kept, which are kept no longer, and how many of them there are. At want of memory
-// they are kept, and the piece goes to the haul.
-fn take_kept(
-    kept: &mut Option<Frame>,
-    piece: Frame,
-    haul: &mut Haul,
-) -> Result<(Frame, usize), AllocError>
+// they are kept, and the piece is handed back.
+fn take_kept(kept: &mut Option<Frame>, piece: Frame) -> Result<(Frame, usize), Frame>
     requires sum { length (bytes_of (nodes_if kept.old)) + length (bytes_of piece) ≤ 2 ^ 62 }
     ensures joined { IfOk result (λ r. (r.0 ≡ nodes_if kept.old ++ piece.entry)
         × (r.1 ≡ length (nodes_if kept.old))) }
-    ensures taken { OnOk result ((kept.new ≡ None) × (haul.new ≡ haul.old)) }
-    ensures refused { OnErr result ((kept.new ≡ kept.old)
-        × (haul.new ≡ record haul.old { refused = Some piece.entry })) }
+    ensures taken { OnOk result (kept.new ≡ None) }
+    ensures refused { IfErr result (λ p. (p ≡ piece.entry) × (kept.new ≡ kept.old)) }
 {
     let Some(mut nodes) = kept.take() else {
         return Ok((piece, 0));
@@ -118,8 +113,7 @@ fn take_kept(
         Ok(()) => Ok((nodes, first)),
         Err(piece) => {
             *kept = Some(nodes);
-            haul.refused = Some(piece);
-            Err(AllocError)
+            Err(piece)
         }
     }
 }
@@ -131,7 +125,6 @@ fn settle(kept: &mut Option<Frame>, chain: Frame, haul: &mut Haul) -> Result<(),
     ensures totals { KeepsTotals (held_by chain.entry ++ hauled haul.old)
         (held_by (nodes_if kept.new) ++ hauled haul.new) }
     ensures back { Begins haul.old.back.items haul.new.back.items }
-    ensures slot { haul.new.refused ≡ haul.old.refused }
     ensures refused { OnErr result ((kept.new ≡ Some chain.entry) × SameHaul haul.old haul.new) }
 {
     if chain.length() > 0 {
@@ -151,7 +144,6 @@ fn settle(kept: &mut Option<Frame>, chain: Frame, haul: &mut Haul) -> Result<(),
 fn give_up(kept: &mut Option<Frame>, haul: &mut Haul) -> Result<(), AllocError>
     ensures kept { OnOk result (kept.new ≡ None) }
     ensures back { Begins haul.old.back.items haul.new.back.items }
-    ensures slot { haul.new.refused ≡ haul.old.refused }
     ensures totals { KeepsTotals (held_by (nodes_if kept.old) ++ hauled haul.old)
         (held_by (nodes_if kept.new) ++ hauled haul.new) }
     ensures units { haul.new.units ≡ haul.old.units }
@@ -177,7 +169,7 @@ fn give_last(kept: &mut Option<Frame>, at: u64, haul: &mut Haul) -> Result<(), A
         ≡ haul.old.units.items ++ FrameUnit.Frame at (nodes_if kept.old) ∷ []) }
     ensures totals { KeepsTotals (held_by (nodes_if kept.old) ++ hauled haul.old)
         (held_by (nodes_if kept.new) ++ hauled haul.new) }
-    ensures others { (haul.new.back ≡ haul.old.back) × (haul.new.refused ≡ haul.old.refused) }
+    ensures back { haul.new.back ≡ haul.old.back }
     ensures stays { OnErr result ((kept.new ≡ kept.old) × (haul.new.units.items ≡ haul.old.units.items)) }
 {
     haul.units.reserve(1)?;

@@ -1,4 +1,4 @@
-ghost use Rattle.std.specs.Prelude.{◌≡◌, ℕ, ◌+◌, ◌<◌, ◌^◌, List, ◌++◌, None, true, flat_map, length, OnOk};
+ghost use Rattle.std.specs.Prelude.{◌≡◌, ℕ, ◌+◌, ◌<◌, ◌^◌, List, ◌++◌, true, flat_map, length, OnOk};
 ghost use Rattle.buffer_model.specs.Segment.{bytes_of};
 ghost use Rattle.frame_head.specs.Units.{units, ended};
 ghost use Rattle.frame_rule.specs.Units.{Grew};
@@ -21,7 +21,6 @@ pub fn feed_all<D: Decoder>(
     mint: &mut Mint,
 ) -> Result<(), FeedFault>
     requires room { (D.state decoder.old).fed + length (flat_map (λ p. bytes_of p) pieces.items) < 2 ^ 62 }
-    requires taken { haul.old.refused ≡ None }
     ensures units { OnOk result ((h : List ℕ) → D.stands decoder.old h → Grew (units (D.state decoder.old).codec h)
         (ended (D.state decoder.old).codec (h ++ flat_map (λ p. bytes_of p) pieces.entry.items))
         haul.old.units.items haul.new.units.items) }

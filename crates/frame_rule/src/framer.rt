@@ -1,8 +1,14 @@
 //! Decoders: one engine, in which a scanner finds the ends of units.
-ghost use Rattle.std.specs.Prelude.{◌≡◌, ◌+◌, ◌-◌, ◌<◌, [], true, false, None, length, take};
+ghost use Rattle.std.specs.Prelude.{◌≡◌, ◌↔◌, ◌+◌, ◌-◌, ◌<◌, [], true, false, None, IsNone, length, take};
+ghost use Rattle.std.specs.Option.{IfSome};
+ghost use Rattle.storage.specs.Back.{stakes_in};
+ghost use Rattle.buffer_model.specs.Segment.{bytes_of};
+ghost use Rattle.buffer_model.specs.Stake.{KeepsTotals};
+ghost use Rattle.iobuf_chain.specs.Accounts.{held_by};
 ghost use Rattle.frame_head.specs.Codecs.{fault_of};
 ghost use Rattle.frame_rule.specs.Decoding.{fresh};
 ghost use Rattle.frame_rule.specs.Framing.{StandsFor, decoding_of};
+ghost use Rattle.frame_rule.specs.Hauls.{AreReturns, all_kept, nodes_if};
 
 use crate::decoder::{Decoder, FeedFault};
 use crate::haul::Haul;
@@ -21,20 +27,23 @@ use storage::Returns;
 pub struct Framer<S: Scanner> {
     progress: Progress<S>,
     kept: Option<Frame>,
+    // A piece of which nothing was taken, since memory was refused to join it to what is kept.
+    refused: Option<Frame>,
     dead: bool,
 }
 
 impl<S: Scanner> Model for Framer<S> {
-    ghost use Rattle.std.specs.Prelude.{◌≡◌, false};
+    ghost use Rattle.std.specs.Prelude.{◌≡◌, false, None};
     ghost use Rattle.storage.specs.declared.release.NoOwner.{NoOwner};
-    ghost use Rattle.frame_rule.specs.Framing.{Framing, Stands, framing_of};
-    ghost use Rattle.frame_rule.specs.Hauls.{nodes_if};
+    ghost use Rattle.frame_rule.specs.Framing.{FitsBehind, Framing, Stands, framing_of};
+    ghost use Rattle.frame_rule.specs.Hauls.{all_kept, nodes_if};
 
     ghost Value = { Framing S NoOwner };
 
-    ghost view = { λ d. framing_of S.codec_of S.saw d.progress (nodes_if d.kept) d.dead };
+    ghost view = { λ d. framing_of S.codec_of S.saw d.progress (all_kept d.kept d.refused) d.dead };
 
-    ghost invariant = { λ d. d.dead ≡ false → Stands S.codec_of S.saw d.progress (nodes_if d.kept) };
+    ghost invariant = { λ d. (d.dead ≡ false → (d.refused ≡ None)
+        × Stands S.codec_of S.saw d.progress (nodes_if d.kept)) × FitsBehind (nodes_if d.kept) d.refused };
 }
 
 impl<S: Scanner> Framer<S> {
@@ -54,6 +63,7 @@ impl<S: Scanner> Framer<S> {
                 skip: 0,
             },
             kept: None,
+            refused: None,
             dead: false,
         }
     }
@@ -86,7 +96,10 @@ impl<S: Scanner + Send> Decoder for Framer<S> {
                 self.dead = false;
                 Ok(())
             }
-            Err(_) => Err(FeedFault::NoMemory),
+            Err(refused) => {
+                self.refused = refused;
+                Err(FeedFault::NoMemory)
+            }
         }
     }
 
@@ -103,18 +116,37 @@ impl<S: Scanner + Send> Decoder for Framer<S> {
 
     fn give_back(&mut self) -> Option<Returns> {
         self.dead = true;
-        let Some(chain) = self.kept.take() else {
-            return None;
-        };
-        Some(chain.give_back())
+        give_all_back(self.kept.take(), self.refused.take())
     }
 
     fn held(&self) -> u64 {
-        match &self.kept {
-            Some(chain) => chain.length() as u64,
-            None => 0,
-        }
+        length_if(&self.kept) + length_if(&self.refused)
     }
 
     ghost counted = { λ d h st. (st.fed, st.alive, S.checked d.scanner _ st.seen) };
+}
+
+// How many bytes a chain has that may be there.
+fn length_if(chain: &Option<Frame>) -> u64
+    ensures { result ≡ length (bytes_of (nodes_if chain.now)) }
+{
+    match chain {
+        Some(chain) => chain.length() as u64,
+        None => 0,
+    }
+}
+
+// Gives back the nodes that are kept, and behind them those of a piece that was refused.
+fn give_all_back(kept: Option<Frame>, refused: Option<Frame>) -> Option<Returns>
+    ensures none { IsNone result ↔ (all_kept kept.entry refused.entry ≡ []) }
+    ensures backs { IfSome result (λ backs. AreReturns (all_kept kept.entry refused.entry) backs) }
+    ensures totals { IfSome result
+        (λ backs. KeepsTotals (held_by (all_kept kept.entry refused.entry)) (stakes_in backs)) }
+{
+    match (kept, refused) {
+        (None, None) => None,
+        (Some(chain), None) => Some(chain.give_back()),
+        (None, Some(piece)) => Some(piece.give_back()),
+        (Some(chain), Some(piece)) => Some(chain.give_back_with(piece)),
+    }
 }

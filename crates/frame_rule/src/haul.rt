@@ -1,7 +1,6 @@
-ghost use Rattle.std.specs.Prelude.{◌≡◌, [], None};
+ghost use Rattle.std.specs.Prelude.{◌≡◌, []};
 
 use crate::unit::FrameUnit;
-use iobuf_chain::Frame;
 use std::alloc::Global;
 use storage::Returns;
 
@@ -12,8 +11,6 @@ pub struct Haul {
     pub units: Vec<FrameUnit>,
     /// What the nodes handed back whose bytes are used up.
     pub back: Vec<Returns>,
-    /// A piece of which nothing was taken, since memory was refused to join it to what was kept before.
-    pub refused: Option<Frame>,
 }
 
 impl Haul {
@@ -21,12 +18,10 @@ impl Haul {
     pub fn new(alloc: Global) -> Haul
         ensures units { result.units.items ≡ [] }
         ensures back { result.back.items ≡ [] }
-        ensures refused { result.refused ≡ None }
     {
         Haul {
             units: Vec::new(alloc),
             back: Vec::new(alloc),
-            refused: None,
         }
     }
 }

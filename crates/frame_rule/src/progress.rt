@@ -1,11 +1,11 @@
 //! How far a stream was scanned, and what the nodes come to that are scanned next.
-ghost use Rattle.std.specs.Prelude.{if◌then◌else◌, ◌≡◌, ◌+◌, ◌-◌, ◌≤◌, ◌<◌, ◌^◌, true, false, min, IfOk, OnOk, OnErr, length, take, drop, slice_get};
+ghost use Rattle.std.specs.Prelude.{◌≡◌, ◌+◌, ◌-◌, ◌≤◌, ◌<◌, ◌^◌, true, false, min, IfOk, OnOk, OnErr, length, take, drop, slice_get};
 ghost use Rattle.std.specs.Option.{ForSome};
 ghost use Rattle.buffer_model.specs.Segment.{bytes_of};
 ghost use Rattle.iobuf_chain.specs.Copies.{IsHeavy, WithData};
 ghost use Rattle.frame_head.specs.Heads.{FrameAt, FaultAt};
 ghost use Rattle.frame_rule.specs.Scanning.{inner};
-ghost use Rattle.frame_rule.specs.Framing.{Advances, Passes, Stands, Stops};
+ghost use Rattle.frame_rule.specs.Framing.{Advances, Passes, Stands, Stops, kept_size};
 ghost use Rattle.frame_rule.specs.Hauls.{Moves, SharesData};
 ghost use Rattle.frame_rule.specs.Units.{Gives};
 
@@ -116,7 +116,7 @@ impl<S: Scanner> Progress<S> {
 
     // How many bytes of the open unit are kept.
     fn kept(&self) -> usize
-        ensures { result ≡ (if self.now.lost then 0 else self.now.unread) }
+        ensures { result ≡ kept_size self.now }
     {
         if self.lost { 0 } else { self.unread as usize }
     }
@@ -130,10 +130,9 @@ impl<S: Scanner> Progress<S> {
         haul: &mut Haul,
         mint: &mut Mint,
     ) -> Result<(), AllocError>
-        requires there { (if self.old.lost then 0 else self.old.unread) + n ≤ length (bytes_of chain.old) }
+        requires there { kept_size self.old + n ≤ length (bytes_of chain.old) }
         requires room { self.old.fed + n < 2 ^ 62 }
-        ensures rest { OnOk result (bytes_of chain.new
-            ≡ drop ((if self.old.lost then 0 else self.old.unread) + n) (bytes_of chain.old)) }
+        ensures rest { OnOk result (bytes_of chain.new ≡ drop (kept_size self.old + n) (bytes_of chain.old)) }
         ensures progress { OnOk result (self.new ≡ record self.old { fed = self.old.fed + n }) }
         ensures stays { OnErr result (self.new ≡ self.old) }
         ensures units { haul.new.units ≡ haul.old.units }
@@ -156,11 +155,10 @@ impl<S: Scanner> Progress<S> {
         haul: &mut Haul,
         mint: &mut Mint,
     ) -> Result<(), AllocError>
-        requires there { (if self.old.lost then 0 else self.old.unread) + n ≤ length (bytes_of chain.old) }
+        requires there { kept_size self.old + n ≤ length (bytes_of chain.old) }
         requires within { self.old.unread ≤ self.old.fed }
         requires room { self.old.fed + n < 2 ^ 62 }
-        ensures rest { OnOk result (bytes_of chain.new
-            ≡ drop ((if self.old.lost then 0 else self.old.unread) + n) (bytes_of chain.old)) }
+        ensures rest { OnOk result (bytes_of chain.new ≡ drop (kept_size self.old + n) (bytes_of chain.old)) }
         ensures progress { OnOk result (self.new
             ≡ record self.old { fed = self.old.fed + n; unread = self.old.unread + n; lost = true }) }
         ensures stays { OnErr result (self.new ≡ self.old) }
@@ -219,10 +217,9 @@ impl<S: Scanner> Progress<S> {
         mint: &mut Mint,
     ) -> Result<(), AllocError>
         requires within { self.old.unread ≤ self.old.fed }
-        requires there { (if self.old.lost then 0 else self.old.unread) + used ≤ length (bytes_of chain.old) }
+        requires there { kept_size self.old + used ≤ length (bytes_of chain.old) }
         requires room { self.old.fed + used < 2 ^ 62 }
-        ensures rest { OnOk result (bytes_of chain.new
-            ≡ drop ((if self.old.lost then 0 else self.old.unread) + used) (bytes_of chain.old)) }
+        ensures rest { OnOk result (bytes_of chain.new ≡ drop (kept_size self.old + used) (bytes_of chain.old)) }
         ensures unit { OnOk result (Gives (FaultAt (self.old.fed - self.old.unread) kind)
             haul.old.units.items haul.new.units.items) }
         ensures progress { OnOk result (self.new

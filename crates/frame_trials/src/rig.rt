@@ -42,7 +42,7 @@ impl<D: Decoder> Rig<D> {
     {
         let more = piece.length() as u64;
         let most = MOST as u64;
-        if self.fed > most || more > most || self.haul.refused.is_some() {
+        if self.fed > most || more > most {
             return Err(Fail::from("too long for a trial"));
         }
         match self

@@ -171,8 +171,7 @@ impl<D: Decoder> Cutter<D> {
 
 // Lets go of all that is in a haul.
 fn empty(haul: &mut Haul)
-    ensures units { haul.new.units.items ≡ [] }
-    ensures refused { haul.new.refused ≡ None }
+    ensures { haul.new.units.items ≡ [] }
 {
     'units: while let Some(unit) = haul.units.pop() {
         if let FrameUnit::Frame { chain, .. } = unit {
@@ -180,5 +179,4 @@ fn empty(haul: &mut Haul)
         }
     }
     haul.back.clear();
-    haul.refused = None;
 }

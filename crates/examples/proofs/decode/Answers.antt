@@ -13,7 +13,7 @@ feed_copy-requires-clause-room g c =
     omega (arith, some, fed.0, c.requires.room)
 
 pub pieces-init : goal.pieces-init
-pieces-init g c = record { codec = refl; stands = c.requires.fresh; units = ap units_of c.new-haul.ensures.units; taken = c.new-haul.ensures.refused }
+pieces-init g c = record { codec = refl; stands = c.requires.fresh; units = ap units_of c.new-haul.ensures.units }
 
 pub pieces-preserved : goal.pieces-preserved
 pieces-preserved g c =
@@ -26,7 +26,7 @@ pieces-preserved g c =
     let fed = fed_on (stands c.pieces.decoder) (stands c.feed_copy.new.decoder) _ (state c.args.decoder).codec before (slice_index_or xs i none).now _ c.pieces.haul.units.items c.feed_copy.new.haul.units.items
     (joined_more (λ (p : Bor (List ℕ)). p.now) xs i none c.pieces-test.true)
     c.pieces.invariant.codec c.pieces.invariant.stands c.pieces.invariant.units c.in_ok-feed_copy.ensures.units in
-    record { codec = c.in_ok-feed_copy.ensures.codec ∙ c.pieces.invariant.codec; stands = fed.0; units = fed.1; taken = c.in_ok-feed_copy.ensures.taken }
+    record { codec = c.in_ok-feed_copy.ensures.codec ∙ c.pieces.invariant.codec; stands = fed.0; units = fed.1 }
 
 pub returns : goal.returns
 returns g c =

@@ -1,4 +1,4 @@
-use Rattle.std.proofs.Common.{◌≡◌, take, None}
+use Rattle.std.proofs.Common.{◌≡◌, take}
 use Rattle.std.specs.Prelude.{flat_map}
 use Rattle.frame_head.specs.Units.{units}
 use Rattle.frame_rule.specs.Units.{units_of}
@@ -11,5 +11,4 @@ invariant-pieces g l =
       codec : (g.D.Decoder.state l.decoder).codec ≡ by;
       stands : g.D.Decoder.stands l.decoder fed;
       units : units_of l.haul.units.items ≡ units by fed;
-      taken : l.haul.refused ≡ None;
     }

@@ -4,9 +4,9 @@ use Rattle.frame_rule.proofs.cuts.drop_front.Goals as goal
 
 pub returns-in_err-front-clause-moves : goal.returns-in_err-front-clause-moves
 returns-in_err-front-clause-moves c =
-    moves_none _ _ _ _ _ _ c.in_err-front.ensures.totals c.in_err-front.ensures.mint (refl, c.reserve.ensures.items, refl)
+    moves_none _ _ _ _ _ _ c.in_err-front.ensures.totals c.in_err-front.ensures.mint (refl, c.reserve.ensures.items)
 
 pub returns-clause-moves : goal.returns-clause-moves
 returns-clause-moves c =
     moves_back _ _ _ _ c.in_ok-front.front _ _ c.give_back.result c.in_ok-front.ensures.totals c.in_ok-front.ensures.mint c.give_back.ensures.totals
-    refl (c.push_reserved.ensures.items ∙ ap (λ w. w ++ c.give_back.result ∷ []) c.reserve.ensures.items) refl
+    refl (c.push_reserved.ensures.items ∙ ap (λ w. w ++ c.give_back.result ∷ []) c.reserve.ensures.items)

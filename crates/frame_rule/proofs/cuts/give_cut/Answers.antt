@@ -7,13 +7,13 @@ use Rattle.frame_rule.proofs.cuts.give_cut.Goals as goal
 
 pub returns-in_err-frame-clause-moves : goal.returns-in_err-frame-clause-moves
 returns-in_err-frame-clause-moves c =
-    moves_none _ _ _ _ _ _ c.in_err-frame.ensures.totals c.in_err-frame.ensures.mint (c.reserve.ensures.items, refl, refl)
+    moves_none _ _ _ _ _ _ c.in_err-frame.ensures.totals c.in_err-frame.ensures.mint (c.reserve.ensures.items, refl)
 
 pub returns-clause-moves : goal.returns-clause-moves
 returns-clause-moves c =
     moves_frame _ _ _ _ c.in_ok-frame.frame c.trim_start.new.self _ _ c.args.at c.in_ok-frame.ensures.totals c.in_ok-frame.ensures.mint
     (keeps_then _ _ _ c.trim_end.ensures.totals c.trim_start.ensures.totals)
-    (c.push_reserved.ensures.items ∙ ap (λ w. w ++ Frame c.args.at c.trim_start.new.self ∷ []) c.reserve.ensures.items) refl refl
+    (c.push_reserved.ensures.items ∙ ap (λ w. w ++ Frame c.args.at c.trim_start.new.self ∷ []) c.reserve.ensures.items) refl
 
 pub returns-clause-shares : goal.returns-clause-shares
 returns-clause-shares c heavy =

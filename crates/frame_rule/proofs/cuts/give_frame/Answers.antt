@@ -15,7 +15,7 @@ returns-in-Ok-Some-clause-moves c =
     let s : SharesFront c.args.k c.args.edges.0 c.args.edges.1 c.args.chain.now c.in-Ok-Some.frame c.share_front.new.self =
     subst Q c.in-Ok-Some.field-0-is c.in-Ok-Some.ensures.cut in
     moves_frame _ _ _ _ (whole s) c.in-Ok-Some.frame _ _ c.args.at (whole_totals s c.args.mint.now) (numbers_same _ _ refl) (frame_totals s)
-    (c.push_reserved.ensures.items ∙ ap (λ w. w ++ Frame c.args.at c.in-Ok-Some.frame ∷ []) c.reserve.ensures.items) refl refl
+    (c.push_reserved.ensures.items ∙ ap (λ w. w ++ Frame c.args.at c.in-Ok-Some.frame ∷ []) c.reserve.ensures.items) refl
 
 pub returns-in-Ok-Some-clause-shares : goal.returns-in-Ok-Some-clause-shares
 returns-in-Ok-Some-clause-shares c heavy =
@@ -35,4 +35,4 @@ returns-in-Ok-None-clause-moves c =
     λ w. Moves c.args.mint.now c.give_cut-in-Ok-None.new.mint w c.give_cut-in-Ok-None.new.chain (record c.args.haul.now { units = c.reserve.new.self }) c.give_cut-in-Ok-None.new.haul in
     let Q : Option (List (Segment NoOwner)) → Type 0 = λ o. IfNone o (c.share_front.new.self ≡ c.args.chain.now) in
     let stays : c.share_front.new.self ≡ c.args.chain.now = subst Q c.in-Ok-None.field-0-is c.in-Ok-None.ensures.stays in
-    moves_from _ _ _ _ _ _ _ (c.reserve.ensures.items, refl, refl) (subst P stays c.give_cut-in-Ok-None.ensures.moves)
+    moves_from _ _ _ _ _ _ _ (c.reserve.ensures.items, refl) (subst P stays c.give_cut-in-Ok-None.ensures.moves)

@@ -20,7 +20,6 @@ pieces-preserved g c =
     record {
       codec = ap (λ (d : Decoding). d.codec) c.in_ok-feed.ensures.state.1 ∙ same;
       fed = let e = ap length parts in let l = length-append p rest in let i = c.pieces.invariant.fed in omega (arith, e, l, i, fed);
-      refused = c.in_ok-feed.ensures.refused;
       stands = λ h st.
           let before = c.pieces.invariant.stands h st in
           let P : List ℕ → Type 0 = λ w. g.D.Decoder.stands c.feed.new.self w in

@@ -8,7 +8,6 @@ abbrev pub invariant-pieces : goal.invariant-pieces
 invariant-pieces g l = record {
   codec : (g.D.Decoder.state l.decoder).codec ≡ (g.D.Decoder.state l.fn.decoder).codec;
   fed : (g.D.Decoder.state l.decoder).fed + length (flat_map (λ p. bytes_of p) l.pieces.items) ≡ (g.D.Decoder.state l.fn.decoder).fed + length (flat_map (λ p. bytes_of p) l.fn.pieces.items);
-  refused : l.haul.refused ≡ None;
   stands : (h : List ℕ) → g.D.Decoder.stands l.fn.decoder h
       → (done : List ℕ) × (done ++ flat_map (λ p. bytes_of p) l.pieces.items ≡ flat_map (λ p. bytes_of p) l.fn.pieces.items)
       × g.D.Decoder.stands l.decoder (h ++ done)

@@ -1,12 +1,19 @@
-use Rattle.std.proofs.Common.{◌++◌, subst}
+use Rattle.std.proofs.Common.{◌≡◌, false, List, ◌++◌, sym, subst}
 use Rattle.storage.specs.declared.release.NoOwner.{NoOwner}
+use Rattle.buffer_model.specs.Segment.{Segment}
 use Rattle.buffer_model.specs.Stake.{KeepsTotals}
 use Rattle.iobuf_chain.specs.Accounts.{held_by}
 use Rattle.frame_rule.specs.Framing.{Framing}
-use Rattle.frame_rule.specs.Hauls.{hauled, nodes_if}
+use Rattle.frame_rule.specs.Hauls.{all_kept, hauled, nodes_if}
+use Rattle.frame_rule.proofs.Intakes.{alive_as, kept_alone}
 use Rattle.frame_rule.proofs.framer.FramerDecoder.end.Goals as goal
 
 pub returns-clause-totals : goal.returns-clause-totals
-returns-clause-totals g c alive n lt =
-    let P : Framing g.row.S.Denot NoOwner → Type 0 = λ d. KeepsTotals (held_by d.kept ++ hauled c.args.haul.now) (held_by (nodes_if c.finish.new.kept) ++ hauled c.finish.new.haul) in
-    subst P c.self.view_is c.finish.ensures.totals n
+returns-clause-totals g c now n lt =
+    let alive : c.self.inside.dead ≡ false = c.if-self.false in
+    let was = c.self.invariant.0 alive in
+    let is = alive_as g.S.Scanner.codec_of g.S.Scanner.saw g.met.S.Scanner.checked c.self.inside.progress c.self.inside.kept c.self.inside.refused c.self.inside.dead c.args.self.now was.0 alive c.self.view_is in
+    let P : Framing g.row.S.Denot NoOwner → Type 0 =
+    λ d. KeepsTotals (held_by d.kept ++ hauled c.args.haul.now) (held_by (all_kept c.finish.new.kept c.self.inside.refused) ++ hauled c.finish.new.haul) in
+    let Q : List (Segment NoOwner) → Type 0 = λ w. KeepsTotals (held_by (nodes_if c.self.inside.kept) ++ hauled c.args.haul.now) (held_by w ++ hauled c.finish.new.haul) in
+    subst P is (subst Q (sym (kept_alone c.finish.new.kept c.self.inside.refused was.0)) c.finish.ensures.totals) n

@@ -26,9 +26,9 @@ returns-in-None-clause-shares g c heavy =
 pub returns-in_ok-give_up-in-Some-clause-totals : goal.returns-in_ok-give_up-in-Some-clause-totals
 returns-in_ok-give_up-in-Some-clause-totals g c =
     let given : Haul = c.give_up-in-Some.new.haul in
-    let now : Haul = record { units = c.push_reserved.new.self; back = given.back; refused = given.refused } in
-    let first : Haul = record { units = c.reserve.new.self; back = c.args.haul.now.back; refused = c.args.haul.now.refused } in
+    let now : Haul = record { units = c.push_reserved.new.self; back = given.back } in
+    let first : Haul = record { units = c.reserve.new.self; back = c.args.haul.now.back } in
     fault_totals _ (nodes_if c.give_up-in-Some.new.kept) given now
-    (keeps_then _ _ _ (keeps_equal _ _ (ap (λ w. held_by (nodes_if c.args.kept.now) ++ w) (sym (same_hauled c.args.haul.now first (c.reserve.ensures.items, refl, refl)))))
+    (keeps_then _ _ _ (keeps_equal _ _ (ap (λ w. held_by (nodes_if c.args.kept.now) ++ w) (sym (same_hauled c.args.haul.now first (c.reserve.ensures.items, refl)))))
     c.in_ok-give_up-in-Some.ensures.totals)
-    (fault_hauled given now (Fault (c.args.self.now.fed - c.args.self.now.unread) c.in-Some.kind) refl c.push_reserved.ensures.items refl refl)
+    (fault_hauled given now (Fault (c.args.self.now.fed - c.args.self.now.unread) c.in-Some.kind) refl c.push_reserved.ensures.items refl)

@@ -9,7 +9,7 @@ nodes-init g c = record {
   next = c.with_data-i.ensures.data;
   passes = passes_none g.S.Scanner.codec_of g.S.Scanner.saw g.met.S.Scanner.checked c.args.self.now c.args.first c.with_data-i.result c.args.chain.now c.args.haul.now.units.items
       c.with_data-i.ensures.none c.with_data-i.ensures.rest c.with_data-i.ensures.within.1;
-  moves = moves_still _ _ _ _ _ _ refl refl (refl, refl, refl);
+  moves = moves_still _ _ _ _ _ _ refl refl (refl, refl);
   shares = λ heavy. shares_still _ _ _ heavy refl;
 }
 

@@ -8,7 +8,7 @@ use Rattle.frame_rule.proofs.Moving.{moves_fault, moves_from, shares_fault}
 use Rattle.frame_rule.proofs.progress.Progress.refuse.Goals as goal
 
 pub returns-in_err-leave-clause-moves : goal.returns-in_err-leave-clause-moves
-returns-in_err-leave-clause-moves g c = moves_from _ _ _ _ _ _ _ (c.reserve.ensures.items, refl, refl) c.in_err-leave.ensures.moves
+returns-in_err-leave-clause-moves g c = moves_from _ _ _ _ _ _ _ (c.reserve.ensures.items, refl) c.in_err-leave.ensures.moves
 
 pub push_reserved-requires : goal.push_reserved-requires
 push_reserved-requires g c =
@@ -18,10 +18,10 @@ push_reserved-requires g c =
 
 pub returns-clause-moves : goal.returns-clause-moves
 returns-clause-moves g c =
-    let now : Haul = record { units = c.push_reserved.new.self; back = c.leave.new.haul.back; refused = c.leave.new.haul.refused } in
+    let now : Haul = record { units = c.push_reserved.new.self; back = c.leave.new.haul.back } in
     moves_fault _ _ _ _ c.args.haul.now c.leave.new.haul now (Fault (c.args.self.now.fed - c.args.self.now.unread) c.args.kind)
-    (moves_from _ _ _ _ c.args.haul.now (record { units = c.reserve.new.self; back = c.args.haul.now.back; refused = c.args.haul.now.refused }) c.leave.new.haul
-    (c.reserve.ensures.items, refl, refl) c.in_ok-leave.ensures.moves) refl c.push_reserved.ensures.items refl refl
+    (moves_from _ _ _ _ c.args.haul.now (record { units = c.reserve.new.self; back = c.args.haul.now.back }) c.leave.new.haul
+    (c.reserve.ensures.items, refl) c.in_ok-leave.ensures.moves) refl c.push_reserved.ensures.items refl
 
 pub returns-clause-shares : goal.returns-clause-shares
 returns-clause-shares g c heavy =
