@@ -9,6 +9,7 @@ failed. Each run of the program has a time limit.
 import os
 import random
 import resource
+import shutil
 import subprocess
 import sys
 import tempfile
@@ -489,23 +490,32 @@ def stale():
 
 
 def first_starts():
-    """Two starts beside each other wait for one build; a build that fails has a status of its own."""
-    os.utime(PROGRAM, (time.time() - 10, time.time() - 10))
-    stale()
+    """Two starts beside each other wait for one build; a build that fails has a status of its own. The build is played
+    by a script, which puts the program that is there into its place again, and notes that it ran."""
     with tempfile.TemporaryDirectory() as folder:
-        broken = os.path.join(folder, "rt")
-        with open(broken, "w", encoding="ascii") as file:
-            file.write("#!/bin/sh\necho not proved\nexit 1\n")
-        os.chmod(broken, 0o755)
-        path = folder + os.pathsep + os.environ["PATH"]
+        kept, runs, builder = (os.path.join(folder, name) for name in ("kept", "runs", "rt"))
+        shutil.copy2(PROGRAM, kept)
+        environment = {**os.environ, "PATH": folder + os.pathsep + os.environ["PATH"]}
+
+        def builds(script):
+            with open(builder, "w", encoding="ascii") as file:
+                file.write(f"#!/bin/sh\n{script}\n")
+            os.chmod(builder, 0o755)
+            os.utime(PROGRAM, (time.time() - 10, time.time() - 10))
+            stale()
+
+        builds("echo not proved\nexit 1")
         done = subprocess.run([LAUNCHER, "frames", "length,field=1"], input=b"\1a", capture_output=True,
-                              env={**os.environ, "PATH": path}, timeout=SECONDS)
+                              env=environment, timeout=SECONDS)
         same("not built", (done.returncode, done.stdout, b"not proved" in done.stderr), (70, b"", True))
-    starts = [subprocess.Popen([LAUNCHER, *frames_words(1, 1)], stdin=subprocess.PIPE, stdout=subprocess.PIPE,
-                               stderr=subprocess.DEVNULL) for _ in range(2)]
-    for child in starts:
-        out, _ = child.communicate(b"\1a", timeout=BUILD_SECONDS)
-        same("start", (child.returncode, out), (0, b"F 0 1 61\nend 2\n"))
+        builds(f"echo $1 >> '{runs}'\nsleep 1\ncp '{kept}' '{PROGRAM}'")
+        starts = [subprocess.Popen([LAUNCHER, *frames_words(1, 1)], stdin=subprocess.PIPE, stdout=subprocess.PIPE,
+                                   stderr=subprocess.DEVNULL, env=environment) for _ in range(2)]
+        for child in starts:
+            out, _ = child.communicate(b"\1a", timeout=SECONDS)
+            same("start", (child.returncode, out), (0, b"F 0 1 61\nend 2\n"))
+        with open(runs, encoding="ascii") as file:
+            same("builds", file.read(), "run\n")
 
 
 CHECKS = [worked_examples, bad_words, named_inputs, random_frames, random_streams, odd_pieces, long_frames, real_files,
