@@ -20,7 +20,8 @@ module _ {O : Type 0} where
   SplitsOrRenews old new before after clone =
       ((new ≡ old) × Splits before after clone) ⊎ (Adds 1 old new × Renews old new before after clone)
 
-  -- a window before it is cloned and after, and its clone, with the mint before and after: all have the same three lists, and the storage is shared, or the clone stands on a copy of the whole block
+  -- a window before it is cloned and after, and its clone, with the mint before and after: all have the same three
+  -- lists, and the storage is shared, or the clone stands on a copy of the whole block
   pub record Clones (old new : Numbers) (before after clone : Segment O) : Type 0 where
     pub lists : after ≡ shared_as after.share before
     pub clone_lists : clone ≡ shared_as clone.share before

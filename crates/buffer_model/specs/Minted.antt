@@ -1,4 +1,5 @@
--- Storages as a mint numbers them. A mint is the list of the words that count its storages: that of storage n stands at n. A number that was handed out by itself has none.
+-- Storages as a mint numbers them. A mint is the list of the words that count its storages: that of storage n stands
+-- at n. A number that was handed out by itself has none.
 use Rattle.std.specs.Prelude.{◌≡◌, ℕ, ◌+◌, ◌≤◌, ◌<◌, List, length, Option, Some, None}
 use Rattle.atomic_table.specs.Seated.{TableId}
 use Rattle.share_count.specs.Weights.{full}
@@ -41,7 +42,8 @@ module _ {O : Type 0} where
   abbrev pub IsOfMint : Numbers → Share O → Type 0
   IsOfMint mint s = IsNumberedAs mint s.number s.table
 
-  -- the one hold on a storage that was made between two moments: it has all the weight, is alone, and the storage is released in this way
+  -- the one hold on a storage that was made between two moments: it has all the weight, is alone, and the storage is
+  -- released in this way
   pub record IsNew (old new : Numbers) (release : Way O) (s : Share O) : Type 0 where
     pub number : IsBetween old new s.number
     pub minted : IsOfMint new s

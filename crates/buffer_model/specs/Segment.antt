@@ -23,7 +23,8 @@ module _ {O : Type 0} where
   bytes_of [] = []
   bytes_of (s ∷ ss) = s.window ++ bytes_of ss
 
-  -- a block cut into the bytes before a place, n bytes from there on, and the rest. What would lie past its end is left out
+  -- a block cut into the bytes before a place, n bytes from there on, and the rest. What would lie past its end is
+  -- left out
   abbrev pub cut : List ℕ → ℕ → ℕ → Share O → Segment O
   cut block start n share = record {
     before = take start block;

@@ -21,7 +21,9 @@ ownerless (user o) = user tt
 ownerless (lent n) = lent n
 ownerless (tagged t) = tagged t
 
--- what a hold has of its storage: the storage's number and the word that counts it, the hold's own weight, the weight of the receipts that it absorbed, and how the storage is released; how many looks it took, and the word that the latest found; and whether the storage is its alone, to be written. Bytes that are wrapped have no storage
+-- what a hold has of its storage: the storage's number and the word that counts it, the hold's own weight, the weight
+-- of the receipts that it absorbed, and how the storage is released; how many looks it took, and the word that the
+-- latest found; and whether the storage is its alone, to be written. Bytes that are wrapped have no storage
 pub record Share (O : Type 0) : Type 0 where
   pub number : Option ℕ
   pub table : Option TableId

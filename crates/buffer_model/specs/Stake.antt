@@ -3,7 +3,8 @@ use Rattle.std.specs.Prelude.{◌≡◌, ℕ, ◌+◌, ◌<◌, ◌==◌, if◌t
 use Rattle.buffer_model.specs.Share.{Share, Way, Kind, ownerless}
 use Rattle.share_count.specs.Held.{Tally}
 
--- one thing that has a part of a storage's weight: a hold; a receipt by itself; what was handed back while others hold the storage; or what was handed back at the last, with how the storage was released
+-- one thing that has a part of a storage's weight: a hold; a receipt by itself; what was handed back while others
+-- hold the storage; or what was handed back at the last, with how the storage was released
 pub data Stake (O : Type 0) : Type 0 where
   held : Share O → Stake O
   counted : Tally → Stake O

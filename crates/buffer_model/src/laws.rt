@@ -53,7 +53,8 @@ pub fn keeps_beside_keeps<O: Drop>()
     ensures { KeepsBesideKeeps O }
 {}
 
-/// A call that keeps totals of the storages that were numbered before it, after one that does, keeps those of the first call's, also where the mint has numbered more in between.
+/// A call that keeps totals of the storages that were numbered before it, after one that does, keeps those of the
+/// first call's, also where the mint has numbered more in between.
 pub fn keeps_as_count_grows<O: Drop>()
     ensures { KeepsAsCountGrows O }
 {}

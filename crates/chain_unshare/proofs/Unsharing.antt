@@ -262,7 +262,8 @@ module _ {O : Type 0} where
   refused_totals m xs ys (Err x) e err = λ n h. keeps_equal _ _ (ap (λ zs. held_by zs) (sym e) ∙ sym (append-nil (held_by ys))) n
 
 module _ {O : Type 0} (runs : O → ℕ) (last : O → Option (List ℕ)) where
-  -- copies take the places of the first i nodes, where those aren't whole: the nodes before and now, all copies and those that are left, and what was handed back
+  -- copies take the places of the first i nodes, where those aren't whole: the nodes before and now, all copies and
+  -- those that are left, and what was handed back
   pub record Moving (i : ℕ) (old now all left : List (Segment O)) (backs : List (Back O)) : Type 0 where
     pub moved : List (Segment O)
     pub todo : List (Segment O)

@@ -17,7 +17,8 @@ module _ {O : Type 0} where
     pub most : length (bytes_of run) ≤ n
     pub longest : StopsAt (n - length (bytes_of run)) past
 
-  -- one side of a chain that is split between nodes: its nodes; or, without any, one node without data and room on a new storage
+  -- one side of a chain that is split between nodes: its nodes; or, without any, one node without data and room on a
+  -- new storage
   abbrev pub IsSide : Numbers → Numbers → List (Segment O) → List (Segment O) → Type 0
   IsSide old new nodes side = ((side ≡ nodes) × (0 < length nodes) × (new ≡ old))
       ⊎ ((nodes ≡ []) × IsEmptyChain old new side)
@@ -28,7 +29,8 @@ module _ {O : Type 0} where
     pub front_side : IsSide old mid run front
     pub rest_side : IsSide mid new past rest
 
-  -- the node behind the run is cloned: the clone has its first k bytes and comes last in front, and the node itself has the others and stays
+  -- the node behind the run is cloned: the clone has its first k bytes and comes last in front, and the node itself
+  -- has the others and stays
   pub record SplitsNode (k : ℕ) (old new : Numbers) (run past front rest : List (Segment O)) : Type 0 where
     pub node : Segment O
     pub behind : List (Segment O)

@@ -17,7 +17,11 @@ use std::alloc::{AllocError, Global};
 use std::mem;
 use storage::Release;
 
-/// The first `n` bytes leave, as a chain of their own, and the rest stays. Nodes move as they are; where the last of the bytes lie in a node that has more, that node is cloned: the clone comes last in front, and the node itself, with its weight, stays behind. A side without a node gets one without data and room, on a new storage. `Short` exactly where there are fewer bytes, and then nothing changes. O(nodes in front), and a copy of one block where the node that is cut has the weight 1.
+/// The first `n` bytes leave, as a chain of their own, and the rest stays. Nodes move as they are; where the last of
+/// the bytes lie in a node that has more, that node is cloned: the clone comes last in front, and the node itself,
+/// with its weight, stays behind. A side without a node gets one without data and room, on a new storage. `Short`
+/// exactly where there are fewer bytes, and then nothing changes. O(nodes in front), and a copy of one block where
+/// the node that is cut has the weight 1.
 pub fn split<'a, O: Release>(
     c: &mut Chain<'a, O>,
     alloc: Global,

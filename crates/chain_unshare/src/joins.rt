@@ -18,7 +18,10 @@ use std::alloc::{AllocError, Global};
 use std::mem;
 use storage::{Release, Returns};
 
-/// All nodes become one, on a new storage: with all data, and around it the bytes of the room before the first node and of the room after the last. The answer has what the old nodes handed back, in order. A chain of one node stays as it is. At want of memory nothing changes. One copy of each byte that stays, and one new storage; O(nodes) beside.
+/// All nodes become one, on a new storage: with all data, and around it the bytes of the room before the first node
+/// and of the room after the last. The answer has what the old nodes handed back, in order. A chain of one node stays
+/// as it is. At want of memory nothing changes. One copy of each byte that stays, and one new storage; O(nodes)
+/// beside.
 pub fn coalesce<'a, O: Release>(
     c: &mut Chain<'a, O>,
     alloc: Global,
@@ -43,7 +46,10 @@ pub fn coalesce<'a, O: Release>(
     Ok(mem::replace(c, whole).give_back())
 }
 
-/// The first node gets at least `n` bytes of data: the fewest first nodes that have them become one, as by `coalesce`, and the others stay. Nothing changes where the first node has them. `Short` exactly where the chain has fewer bytes; then, and at want of memory, nothing changes. O(nodes that become one), with one copy of each of their bytes that stays.
+/// The first node gets at least `n` bytes of data: the fewest first nodes that have them become one, as by
+/// `coalesce`, and the others stay. Nothing changes where the first node has them. `Short` exactly where the chain
+/// has fewer bytes; then, and at want of memory, nothing changes. O(nodes that become one), with one copy of each of
+/// their bytes that stays.
 pub fn gather<'a, O: Release>(
     c: &mut Chain<'a, O>,
     alloc: Global,
@@ -76,7 +82,8 @@ pub fn gather<'a, O: Release>(
     }
 }
 
-/// A node on a new storage with copies of what `coalesce` would leave, for a chain of one node too. The chain stays as it is. One copy of each byte, and four allocations.
+/// A node on a new storage with copies of what `coalesce` would leave, for a chain of one node too. The chain stays
+/// as it is. One copy of each byte, and four allocations.
 pub fn clone_coalesced<'a, O: Release>(
     c: &Chain<'a, O>,
     alloc: Global,

@@ -18,7 +18,10 @@ use std::alloc::{AllocError, Global};
 use std::collections::VecDeque;
 use storage::{Back, Release, Returns};
 
-/// Each node that isn't whole moves to a copy of its whole block on a new storage, rooms too, and gives its old storage back; the others stay as they are. Takes no look at a count. The answer has what the nodes that moved handed back, in order. All copies are made before the first node moves, so at want of memory the chain stays as it is. O(nodes), with one copy of each block that moves; no memory where all nodes are whole.
+/// Each node that isn't whole moves to a copy of its whole block on a new storage, rooms too, and gives its old
+/// storage back; the others stay as they are. Takes no look at a count. The answer has what the nodes that moved
+/// handed back, in order. All copies are made before the first node moves, so at want of memory the chain stays as it
+/// is. O(nodes), with one copy of each block that moves; no memory where all nodes are whole.
 pub fn unshare<'a, O: Release>(
     c: &mut Chain<'a, O>,
     alloc: Global,

@@ -1,4 +1,5 @@
--- Structs of pointers and markers own no memory: their fields say what bits they have, and bits that fit side by side are a struct's. Assumes `Logic`.
+-- Structs of pointers and markers own no memory: their fields say what bits they have, and bits that fit side by side
+-- are a struct's. Assumes `Logic`.
 use Rattle.std.proofs.Common.{◌≡◌, T, List, [], ◌∷◌, refl, ℕ, ◌<◌, ◌^◌, w64}
 use seplogic.Ra.Ura.{Ura}
 use mir.Syntax.{Ty, ty_ptr, ty_int, ty_struct, tcons, tnil}

@@ -1,4 +1,5 @@
--- A seat's step with its pool: both views change in the step on the word, and parts go one way or the other. Assumes `Logic`.
+-- A seat's step with its pool: both views change in the step on the word, and parts go one way or the other. Assumes
+-- `Logic`.
 use Rattle.std.proofs.Common.{◌≡◌, ℕ, ◌+◌, ◌-◌, ◌*◌, ◌^◌, ◌<◌, ◌≤◌, List, [], ◌∷◌, ◌++◌, length, length-set, get_or, set, sym, ◌∙◌, refl, arith, subst}
 use mathlib.Core.Option.{some}
 use mathlib.Core.Logic.{dite}
@@ -56,7 +57,8 @@ module _ {M : Type 1} {𝓤 : Ura M} (𝓛 : Logic 𝓤) (R : RattleType) {V : T
   abbrev PI : Fml
   PI = inner R cv.code holds w p z
 
-  -- The seat id has the view me and k parts out of the pool, whose seat is another. By a step that finds n its view becomes `went n`, what `told n` says is known, and `due n` is had in place of the parts
+  -- The seat id has the view me and k parts out of the pool, whose seat is another. By a step that finds n its view
+  -- becomes `went n`, what `told n` says is known, and `due n` is had in place of the parts
   module _ (a pool id k : ℕ) (deed : Fml) (me : Me R.Denot V) (f : ℕ → ℕ) (went : ℕ → V) (told : ℕ → Type 0) (due : ℕ → Fml) where
     abbrev PJ : Fml
     PJ = Pool cv.code out z a pool deed

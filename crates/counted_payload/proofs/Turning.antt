@@ -1,4 +1,5 @@
--- One step on the table's word. Whoever opens the table's invariant for it finds a state that keeps the rule, and has to leave one. Assumes `Logic`.
+-- One step on the table's word. Whoever opens the table's invariant for it finds a state that keeps the rule, and has
+-- to leave one. Assumes `Logic`.
 use Rattle.std.proofs.Common.{◌≡◌, ℕ, zero, suc, ◌+◌, ◌*◌, ◌<◌, List, [], ◌∷◌, ◌++◌, length, get_or, set, refl, sym, subst, ◌∙◌, arith, length-set}
 use mathlib.Core.Option.{some}
 use lib.ListN.{get_elem?}

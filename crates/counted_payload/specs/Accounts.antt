@@ -6,7 +6,8 @@ use prog.Atomic.{either}
 use Rattle.atomic_table.specs.Table.{State}
 use Rattle.counted_payload.specs.declared.Entry.{Entry}
 
--- an entry: the live weight; the weight held beside it, absorbed or of a receipt; the lasts; the loads; the word last found; how many parts of a lent payload it has, and out of which pool; and how many are out of its own pool
+-- an entry: the live weight; the weight held beside it, absorbed or of a receipt; the lasts; the loads; the word last
+-- found; how many parts of a lent payload it has, and out of which pool; and how many are out of its own pool
 abbrev pub entry : ℕ → ℕ → ℕ → ℕ → ℕ → ℕ → ℕ → ℕ → Entry
 entry w h l k n p b o = record { live = w; held = h; lasts = l; loads = k; note = n; parts = p; pool = b; out = o }
 
@@ -47,7 +48,8 @@ parts_in b v = either (v.pool == b) v.parts 0
 abbrev pub surplus : Entry → ℕ
 surplus v = v.parts - v.live
 
--- what is out of a pool is what its seats have; none has more parts than live weight; and a pool that isn't there has none out
+-- what is out of a pool is what its seats have; none has more parts than live weight; and a pool that isn't there has
+-- none out
 abbrev pub Pools : List Entry → Type 0
 Pools vs = ((b : ℕ) (u : Entry) → get_elem? vs b ≡ some u → u.out ≡ sum_of (parts_in b) vs) × (sum_of surplus vs ≡ 0)
     × ((b : ℕ) → length vs ≤ b → sum_of (parts_in b) vs ≡ 0)

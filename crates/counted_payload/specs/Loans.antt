@@ -1,4 +1,5 @@
--- A boxed value that is lent for a lifetime a of its own, in 2 ^ 62 parts. A pool keeps the parts that are not out, beside a seat of a counted table whose view says how many are.
+-- A boxed value that is lent for a lifetime a of its own, in 2 ^ 62 parts. A pool keeps the parts that are not out,
+-- beside a seat of a counted table whose view says how many are.
 use Rattle.std.specs.Prelude.{◌≡◌, ℕ, ◌-◌, ◌^◌, ◌<◌, [], ◌∷◌}
 use mir.Syntax.{Ty}
 use base.Stored.{Gv}

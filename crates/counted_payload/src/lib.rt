@@ -72,7 +72,8 @@ impl<T, A: Allocator> Model for Loan<T, A> {
 
 unsafe impl<T: Send + Sync, A: Allocator + Send> Send for Loan<T, A> {}
 
-/// What comes out of a pool by a step that found the weight: all parts, and the right to have the payload. Else nothing.
+/// What comes out of a pool by a step that found the weight: all parts, and the right to have the payload. Else
+/// nothing.
 #[derive(Drop)]
 pub struct Returned<T, A: Allocator> {
     at: *const T,
@@ -88,7 +89,8 @@ impl<T, A: Allocator> Model for Returned<T, A> {
     ghost also_owns = { λ d. returned_owns (A.dealloc_token d.alloc) T.row d.at d.value d.round d.count d.found };
 }
 
-/// What stays of a loan after a load that claims: the parts as they were, where it found another word, and else nothing.
+/// What stays of a loan after a load that claims: the parts as they were, where it found another word, and else
+/// nothing.
 #[derive(Drop)]
 pub struct Kept<T, A: Allocator> {
     at: *const T,

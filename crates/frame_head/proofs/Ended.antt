@@ -1,4 +1,5 @@
--- Frames that end with an ending: what is found in a stream is found in each longer one, so the heads of these codecs stay.
+-- Frames that end with an ending: what is found in a stream is found in each longer one, so the heads of these codecs
+-- stay.
 use Rattle.std.proofs.Common.{◌≡◌, ℕ, ◌-◌, ◌<◌, Bool, true, false, List, [], ◌∷◌, ◌++◌, Option, Some, None, length, take, nat_lt, if◌then◌else◌, refl, ap, sym, ◌∙◌, arith, length-append, append-nil, append_assoc}
 use Rattle.frame_head.specs.declared.codecs.Codec.TheVariants.{Line, Delim}
 use Rattle.frame_head.specs.declared.codecs.LineEnd.{LineEnd}

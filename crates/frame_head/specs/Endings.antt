@@ -25,7 +25,8 @@ abbrev pub ended_or : List ℕ → Option (List ℕ) → Option (List ℕ × Lis
 ended_or front (Some ending) found = Some (front, ending)
 ended_or front None found = found
 
--- the shortest front of `front ++ s`, longer than `front`, that has one of the endings at its end, with the longest such ending
+-- the shortest front of `front ++ s`, longer than `front`, that has one of the endings at its end, with the longest
+-- such ending
 abbrev pub first_ended : List (List ℕ) → List ℕ → List ℕ → Option (List ℕ × List ℕ)
 first_ended endings front [] = None
 first_ended endings front (x ∷ s) =

@@ -4,7 +4,8 @@ use Rattle.frame_head.specs.declared.codecs.FaultKind.{FaultKind}
 use Rattle.frame_head.specs.declared.codecs.FaultKind.TheVariants.{TooSmall, TooLong, StripOver}
 use Rattle.frame_head.specs.Numbers.{number_in_order, adjusted}
 
--- more bytes are needed; or a frame of these bytes is there, or a fault, and so many bytes are used by it, which a fault may use before they are there
+-- more bytes are needed; or a frame of these bytes is there, or a fault, and so many bytes are used by it, which a
+-- fault may use before they are there
 pub data Head : Type 0 where
   More : Head
   Whole : List ℕ → ℕ → Head

@@ -35,7 +35,8 @@ AnyCutting = (codec : Codec) → fault_of codec ≡ None → (pieces : List (Lis
     → added_in_turn codec [] pieces ++ added_at_end codec (flat_map (λ p. p) pieces) ≡ ended codec
     (flat_map (λ p. p) pieces)
 
--- what is found in a list: its least front that ends with one of some endings, and the longest of them there; or no front ends with one
+-- what is found in a list: its least front that ends with one of some endings, and the longest of them there; or no
+-- front ends with one
 abbrev pub FindsFirstEnding : Type 0
 FindsFirstEnding = (endings : List (List ℕ)) → ((m : List ℕ) → Contains endings m → 0 < length m) → (s : List ℕ)
     → MatchOption (first_ended endings [] s) ((n : ℕ)

@@ -8,7 +8,9 @@ pub fn stable_units()
     ensures { StableUnits }
 {}
 
-/// Each piece of a stream adds the units of the longer stream that weren't units before, and its end the rest: together they are the units of the whole stream at its end, whatever the cutting and of any codec that `check` passes.
+/// Each piece of a stream adds the units of the longer stream that weren't units before, and its end the rest:
+/// together they are the units of the whole stream at its end, whatever the cutting and of any codec that `check`
+/// passes.
 pub fn any_cutting()
     ensures { AnyCutting }
 {}

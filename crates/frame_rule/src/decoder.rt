@@ -38,9 +38,9 @@ pub trait Decoder: Send + Drop {
     /// Takes the next piece of the stream, and adds the units that it makes whole to the haul. Nodes whose bytes are
     /// used up are given back, into the haul too.
     ///
-    /// Linear in the bytes and the nodes of the piece. After `NoMemory` the first of the new units were added, and the
-    /// decoder is dead and keeps what is left of the piece. `Dead` comes exactly where the decoder was dead before; what
-    /// the piece hands back is then added to the haul where there is room, and dropped otherwise.
+    /// Linear in the bytes and the nodes of the piece. After `NoMemory` the first of the new units were added, and
+    /// the decoder is dead and keeps what is left of the piece. `Dead` comes exactly where the decoder was dead
+    /// before; what the piece hands back is then added to the haul where there is room, and dropped otherwise.
     fn feed(
         &mut self,
         alloc: Global,

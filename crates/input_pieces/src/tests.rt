@@ -2,8 +2,8 @@ use super::*;
 use relay_ports::MemSource;
 use std::test::Fail;
 
-// The source gives five bytes. How many a call gives, which call fails, the size of a piece, what the first piece has and
-// how it ended.
+// The source gives five bytes. How many a call gives, which call fails, the size of a piece, what the first piece has
+// and how it ended.
 #[test]
 fn a_piece_is_the_data_of_a_new_node(rt: HostRuntime) -> Result<(), Fail> {
     let alloc = rt.alloc();

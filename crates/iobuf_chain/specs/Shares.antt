@@ -22,14 +22,16 @@ module _ {O : Type 0} where
   abbrev pub HasSome : ℕ → ℕ → Segment O → Type 0
   HasSome at n s = (at < length s.window) × (0 < n)
 
-  -- what is shared of one node: where it has some of the n bytes from place `at`, its clone with a window on them; else nothing, and it stays
+  -- what is shared of one node: where it has some of the n bytes from place `at`, its clone with a window on them;
+  -- else nothing, and it stays
   abbrev pub SharesOne : ℕ → ℕ → Numbers → Numbers → Segment O → Segment O → Option (Segment O) → Type 0
   SharesOne at n old new before after None = (HasSome at n before → ⊥) × (after ≡ before) × (new ≡ old)
   SharesOne at n old new before after (Some c) =
       HasSome at n before × Clones old new before after (shared_as c.share before)
       × (c ≡ narrowed at n (shared_as c.share before))
 
-  -- so many first nodes in turn; behind them `left` of the n bytes are still to be shared, and the others stay. A node passes so many places and takes so many bytes as it has
+  -- so many first nodes in turn; behind them `left` of the n bytes are still to be shared, and the others stay. A
+  -- node passes so many places and takes so many bytes as it has
   abbrev pub SharesNodes : ℕ → ℕ → ℕ → Numbers → Numbers → List (Segment O) → List (Segment O)
       → List (Option (Segment O)) → Type 0
   SharesNodes at n left old new bs ms [] = (left ≡ n) × (ms ≡ bs) × (new ≡ old)
@@ -50,7 +52,8 @@ module _ {O : Type 0} where
     pub nodes : SharesNodes at n left old new before after parts
     pub shares_are : shares ≡ present parts
 
-  -- a chain before and after n bytes of it from place `at` were shared, and the share: of each node that has one of these bytes a clone with a window on them, in order; the others stay as they are
+  -- a chain before and after n bytes of it from place `at` were shared, and the share: of each node that has one of
+  -- these bytes a clone with a window on them, in order; the others stay as they are
   abbrev pub SharesRange : ℕ → ℕ → Numbers → Numbers → List (Segment O) → List (Segment O) → List (Segment O) → Type 0
   SharesRange at n old new before after share = SharesSome at n 0 old new before after share
 
@@ -61,7 +64,8 @@ module _ {O : Type 0} where
     pub storage : IsNew old new own share
     pub mint : Adds 1 old new
 
-  -- a node before, and after a share that was made of it was given back and absorbed: the same lists on the same storage, with the same weight in all
+  -- a node before, and after a share that was made of it was given back and absorbed: the same lists on the same
+  -- storage, with the same weight in all
   pub record Regains (before after : Segment O) : Type 0 where
     pub lists : after ≡ shared_as after.share before
     pub number : after.share.number ≡ before.share.number
@@ -74,14 +78,16 @@ module _ {O : Type 0} where
   IsReturnable node share = (share.number ≡ None) ⊎ ((share.weight + share.absorbed ≡ full)
       ⊎ ((share.number ≡ node.number) × (share.table ≡ node.table)))
 
-  -- a node before and after a share was given back to it: it absorbed the share's weight; and it stays as it was where the share had none of its storage
+  -- a node before and after a share was given back to it: it absorbed the share's weight; and it stays as it was
+  -- where the share had none of its storage
   abbrev pub Rejoins : Segment O → Share O → Segment O → Type 0
   Rejoins before share after =
       ((after ≡ before) × ((share.weight + share.absorbed ≡ 0) ⊎ IsWhole share))
       ⊎ ((after ≡ shared_as (absorbed_in (share.weight + share.absorbed) before.share) before) × (IsWhole share → ⊥)
       × IsManaged share)
 
-  -- shares that are given back, each to its node: the nodes before, the shares of the first of them, and the nodes after
+  -- shares that are given back, each to its node: the nodes before, the shares of the first of them, and the nodes
+  -- after
   abbrev pub RejoinsEach : List (Segment O) → List (Segment O) → List (Segment O) → Type 0
   RejoinsEach nodes [] after = after ≡ nodes
   RejoinsEach (n ∷ ns) (s ∷ ss) (m ∷ ms) = Rejoins n s.share m × RejoinsEach ns ss ms
@@ -154,7 +160,8 @@ module _ {O : Type 0} where
   RegainsAll at n nodes shares after =
       (before : List (Segment O)) → IsSharedSo at n before nodes shares → AllZip Regains before after
 
-  -- a chain before its first k bytes left, those, and the chain afterwards: the first node is cloned, the clone has its first k bytes, and the node itself has the others and stays
+  -- a chain before its first k bytes left, those, and the chain afterwards: the first node is cloned, the clone has
+  -- its first k bytes, and the node itself has the others and stays
   pub record CutsFirst (k : ℕ) (old new : Numbers) (before front after : List (Segment O)) : Type 0 where
     pub node : Segment O
     pub behind : List (Segment O)
@@ -174,7 +181,8 @@ module _ {O : Type 0} where
     pub shares : SharesPart node left clone
     pub after_is : after ≡ left ∷ behind
 
-  -- a chain before its first k bytes left, a share of them without the first `front` and the last `back`, and the chain afterwards: the share is of the first node, which stays with its other bytes
+  -- a chain before its first k bytes left, a share of them without the first `front` and the last `back`, and the
+  -- chain afterwards: the share is of the first node, which stays with its other bytes
   pub record SharesFront (k front back : ℕ) (before frame after : List (Segment O)) : Type 0 where
     pub node : Segment O
     pub behind : List (Segment O)

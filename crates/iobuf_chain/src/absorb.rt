@@ -12,7 +12,9 @@ use iobuf_node::IoBuf;
 use storage::{Receipt, Told};
 
 impl<'a, O: Told> Chain<'a, O> {
-    /// The first node with the receipt's storage number absorbs it. Where no node has that number, the receipt is handed back, and nothing changes. Numbers of one mint meet the condition (`laws::one_mint_agrees`). O(nodes), and no memory.
+    /// The first node with the receipt's storage number absorbs it. Where no node has that number, the receipt is
+    /// handed back, and nothing changes. Numbers of one mint meet the condition (`laws::one_mint_agrees`). O(nodes),
+    /// and no memory.
     pub fn absorb(&mut self, receipt: Receipt<O>) -> Result<(), Receipt<O>>
         requires { AgreesWith receipt self.old }
         ensures absorbed { MatchResult result (λ _. Absorbs receipt self.old self.new) (λ r. (r ≡ receipt)

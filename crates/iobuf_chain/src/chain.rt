@@ -13,7 +13,8 @@ use std::fmt;
 use std::marker::Model;
 use storage::{Back, NoOwner, Told};
 
-/// One or more nodes. Contracts see the list of their windows. The first node lies in the chain itself, so a chain of one node owns no memory beside its storage; and the room for what its other nodes hand back is taken as they join.
+/// One or more nodes. Contracts see the list of their windows. The first node lies in the chain itself, so a chain of
+/// one node owns no memory beside its storage; and the room for what its other nodes hand back is taken as they join.
 #[derive(Drop)]
 pub struct Chain<'a, O: Told = NoOwner> {
     pub(crate) nodes: Nodes<IoBuf<'a, O>>,
@@ -78,7 +79,8 @@ impl<'a, O: Told> Chain<'a, O> {
         self.nodes.get(i)
     }
 
-    /// Puts a node in the place of node `i`, which is handed back. O(1), and no memory. To change a node, swap an empty wrapped one in, change the one that is handed back, and swap it back.
+    /// Puts a node in the place of node `i`, which is handed back. O(1), and no memory. To change a node, swap an
+    /// empty wrapped one in, change the one that is handed back, and swap it back.
     pub fn swap_node(&mut self, i: usize, node: IoBuf<'a, O>) -> IoBuf<'a, O>
         requires there { i < length self.old }
         requires sum { length (bytes_of (slice_set self.old i node)) < 2 ^ 64 }
@@ -103,7 +105,8 @@ impl<'a, O: Told> Chain<'a, O> {
 }
 
 impl<'a, O: Told> Chain<'a, O> {
-    /// Drops the chain, as going out of scope does: each node gives its storage back, and the receipts are lost. Faster for a chain of one node, since it is taken apart where it lies.
+    /// Drops the chain, as going out of scope does: each node gives its storage back, and the receipts are lost.
+    /// Faster for a chain of one node, since it is taken apart where it lies.
     #[inline(always)]
     pub fn discard(self) {
         let Chain { nodes, room, .. } = self;

@@ -15,7 +15,8 @@ use std::collections::VecDeque;
 use storage::{Back, Release, Returns, Told};
 
 impl<'a, O: Told> Chain<'a, O> {
-    /// Whether some node isn't whole, so that others may hold its storage. Takes no look at a count. O(nodes), and no memory.
+    /// Whether some node isn't whole, so that others may hold its storage. Takes no look at a count. O(nodes), and no
+    /// memory.
     pub fn is_shared(&self) -> bool
         ensures { result ≡ false ↔ Each (λ s. IsWhole s.share) self.now }
     {

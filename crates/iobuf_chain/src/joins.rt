@@ -12,7 +12,8 @@ use std::collections::VecDeque;
 use storage::Told;
 
 impl<'a, O: Told> Chain<'a, O> {
-    /// The nodes of another chain come last, with no byte copied. O(nodes of the other), amortised. At want of memory it is handed back, and nothing changes.
+    /// The nodes of another chain come last, with no byte copied. O(nodes of the other), amortised. At want of memory
+    /// it is handed back, and nothing changes.
     pub fn append_chain(&mut self, other: Chain<'a, O>) -> Result<(), Chain<'a, O>>
         requires { length (bytes_of self.old) + length (bytes_of other) ≤ 2 ^ 62 }
         ensures joined { MatchResult result (λ _. self.new ≡ self.old ++ other.entry) (λ c. (c ≡ other.entry)
@@ -33,7 +34,8 @@ impl<'a, O: Told> Chain<'a, O> {
         }
     }
 
-    /// The nodes of another chain come behind node `i`, with no byte copied. O(nodes of the other, and of those before and those behind the fewer), amortised. At want of memory it is handed back, and nothing changes.
+    /// The nodes of another chain come behind node `i`, with no byte copied. O(nodes of the other, and of those
+    /// before and those behind the fewer), amortised. At want of memory it is handed back, and nothing changes.
     pub fn insert_after(&mut self, i: usize, other: Chain<'a, O>) -> Result<(), Chain<'a, O>>
         requires there { i < length self.old }
         requires sum { length (bytes_of self.old) + length (bytes_of other) ≤ 2 ^ 62 }

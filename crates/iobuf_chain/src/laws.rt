@@ -3,7 +3,8 @@ ghost use Rattle.iobuf_chain.specs.Copies.{SharesInTurn};
 ghost use Rattle.iobuf_chain.specs.Laws.{RotationKeepsNodes, SharesItsBytes};
 ghost use Rattle.iobuf_chain.specs.Receipts.{OneMintAgrees};
 
-/// A node with enough weight can be shared up to 1,024 times in turn: where so many more shares can be made without a copy, one fewer can be after the next.
+/// A node with enough weight can be shared up to 1,024 times in turn: where so many more shares can be made without a
+/// copy, one fewer can be after the next.
 pub fn shares_in_turn()
     ensures { SharesInTurn }
 {}

@@ -17,7 +17,9 @@ use std::collections::VecDeque;
 use storage::Told;
 
 impl<'a, O: Told> Chain<'a, O> {
-    /// A chain that borrows nothing: each wrapped node's whole block is copied to a new storage, rooms too; the others stay as they are. A chain of one node takes no memory but for that copy. At want of memory the chain is handed back as it was, though the mint may have gone on. O(nodes), and a copy of the wrapped blocks.
+    /// A chain that borrows nothing: each wrapped node's whole block is copied to a new storage, rooms too; the
+    /// others stay as they are. A chain of one node takes no memory but for that copy. At want of memory the chain is
+    /// handed back as it was, though the mint may have gone on. O(nodes), and a copy of the wrapped blocks.
     pub fn into_managed(
         self,
         alloc: Global,

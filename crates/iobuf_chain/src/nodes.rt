@@ -126,7 +126,8 @@ impl<T: Drop> Nodes<T> {
         Ok(())
     }
 
-    // Others stand behind item i. At want of memory they are handed back. O(others, and the fewer of those before and behind).
+    // Others stand behind item i. At want of memory they are handed back. O(others, and the fewer of those before and
+    // behind).
     pub(crate) fn insert_after(&mut self, i: usize, others: Nodes<T>) -> Result<(), Nodes<T>>
         requires { i < length self.old }
         ensures { MatchResult result (λ _. self.new ≡ inserted_after i others self.old) (λ o. (o ≡ others)
@@ -176,7 +177,8 @@ impl<T: Drop> Nodes<T> {
         }
     }
 
-    // The items from place i up to and without place j leave; one stays. O(those that leave, and the fewer of those before and behind).
+    // The items from place i up to and without place j leave; one stays. O(those that leave, and the fewer of those
+    // before and behind).
     pub(crate) fn take_between(&mut self, i: usize, j: usize) -> Result<Nodes<T>, AllocError>
         requires some { i < j }
         requires there { j ≤ length self.old }

@@ -15,7 +15,8 @@ use std::collections::VecDeque;
 use storage::Told;
 
 impl<'a, O: Told> Chain<'a, O> {
-    /// Nodes `i` up to and without `j` leave, as a chain of their own. One node stays at least. O(nodes that leave, and of those before and those behind the fewer). One node takes no memory. At want of memory nothing changes.
+    /// Nodes `i` up to and without `j` leave, as a chain of their own. One node stays at least. O(nodes that leave,
+    /// and of those before and those behind the fewer). One node takes no memory. At want of memory nothing changes.
     pub fn separate(&mut self, i: usize, j: usize) -> Result<Chain<'a, O>, AllocError>
         requires some { i < j }
         requires there { j ≤ length self.old }
@@ -34,7 +35,8 @@ impl<'a, O: Told> Chain<'a, O> {
         Ok(Chain { nodes, room, sum })
     }
 
-    /// Node `i` leaves, as a chain of its own. Another stays. O(nodes before it or behind it, of which there are fewer), and no memory: so it always succeeds.
+    /// Node `i` leaves, as a chain of its own. Another stays. O(nodes before it or behind it, of which there are
+    /// fewer), and no memory: so it always succeeds.
     pub fn unlink(&mut self, i: usize) -> Result<Chain<'a, O>, AllocError>
         requires there { i < length self.old }
         requires stays { 1 < length self.old }
@@ -58,7 +60,9 @@ impl<'a, O: Told> Chain<'a, O> {
         self.separate(0, 1)
     }
 
-    /// The nodes before node `i` leave, with another node behind them, as a chain of their own; node `i` and those behind it stay. O(nodes that leave). Where none leaves, it takes no memory. At want of memory the other is handed back, and nothing changes.
+    /// The nodes before node `i` leave, with another node behind them, as a chain of their own; node `i` and those
+    /// behind it stay. O(nodes that leave). Where none leaves, it takes no memory. At want of memory the other is
+    /// handed back, and nothing changes.
     pub fn cut_before(&mut self, i: usize, last: IoBuf<'a, O>) -> Result<Chain<'a, O>, IoBuf<'a, O>>
         requires there { i < length self.old }
         requires sum { length (bytes_of (take i self.old)) + length last.window < 2 ^ 64 }
@@ -80,7 +84,9 @@ impl<'a, O: Told> Chain<'a, O> {
 }
 
 impl<'a, O: Told> Chain<'a, O> {
-    /// The first `k` bytes of the first node, which has more, leave in a clone of it, as a chain of their own. The node itself stays behind, without them. O(1). It takes no memory, and copies no byte, but at weight 1. At want of memory nothing changes.
+    /// The first `k` bytes of the first node, which has more, leave in a clone of it, as a chain of their own. The
+    /// node itself stays behind, without them. O(1). It takes no memory, and copies no byte, but at weight 1. At want
+    /// of memory nothing changes.
     pub fn cut_first(
         &mut self,
         alloc: Global,
@@ -107,7 +113,11 @@ impl<'a, O: Told> Chain<'a, O> {
 }
 
 impl<'a, O: Told> Chain<'a, O> {
-    /// The first `k` bytes of the first node, which has more, leave in a share of it as a chain of their own, without their first `edges.0` and their last `edges.1`. The node itself stays behind with its other bytes. `None` exactly where the node has a weight below 2, as a wrapped one has: then nothing changes. O(1). It takes no memory and copies no byte: the count of a shared pointer grows by one, and where that is refused nothing changes.
+    /// The first `k` bytes of the first node, which has more, leave in a share of it as a chain of their own, without
+    /// their first `edges.0` and their last `edges.1`. The node itself stays behind with its other bytes. `None`
+    /// exactly where the node has a weight below 2, as a wrapped one has: then nothing changes. O(1). It takes no
+    /// memory and copies no byte: the count of a shared pointer grows by one, and where that is refused nothing
+    /// changes.
     #[inline(always)]
     pub fn share_front(
         &mut self,

@@ -21,7 +21,12 @@ use std::collections::VecDeque;
 use storage::{Back, Release};
 
 impl<'a, O: Release> Chain<'a, O> {
-    /// A second chain on `n` bytes from place `at`: of each node that has some of them a clone with a window on those, in order. No bytes are one node without data or room, on a new storage. A wrapped node and one of a weight over 1 share their bytes with their clones; a node of the weight 1 is copied. `Short` where `at` is over the length, with both, and then where `n` is over what is left behind it, with both; nothing then changes. At want of memory the shares that were made are given back and absorbed. O(nodes up to the last byte).
+    /// A second chain on `n` bytes from place `at`: of each node that has some of them a clone with a window on
+    /// those, in order. No bytes are one node without data or room, on a new storage. A wrapped node and one of a
+    /// weight over 1 share their bytes with their clones; a node of the weight 1 is copied. `Short` where `at` is
+    /// over the length, with both, and then where `n` is over what is left behind it, with both; nothing then
+    /// changes. At want of memory the shares that were made are given back and absorbed. O(nodes up to the last
+    /// byte).
     pub fn share_range(
         &mut self,
         alloc: Global,

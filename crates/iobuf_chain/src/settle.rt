@@ -5,7 +5,8 @@ ghost use Rattle.iobuf_chain.specs.Shares.{IsReturnable, Rejoins};
 use iobuf_node::IoBuf;
 use storage::Release;
 
-/// Gives back a share of a node's storage, and the node absorbs the receipt. A share on a storage of its own is dropped. O(1), and no memory.
+/// Gives back a share of a node's storage, and the node absorbs the receipt. A share on a storage of its own is
+/// dropped. O(1), and no memory.
 pub fn rejoin<'a, O: Release>(node: &mut IoBuf<'a, O>, share: IoBuf<'a, O>)
     requires { IsReturnable node.old.share share.share }
     ensures { Rejoins node.old share.entry.share node.new }

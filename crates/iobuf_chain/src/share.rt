@@ -18,7 +18,9 @@ use std::collections::VecDeque;
 use storage::Release;
 
 impl<'a, O: Release> Chain<'a, O> {
-    /// A second chain with a clone of each node, in order. A wrapped node and one of a weight over 1 share their bytes with their clones; a node of the weight 1 is copied. A chain of one node takes no memory but for that clone. At want of memory the shares that were made are given back and absorbed. O(nodes).
+    /// A second chain with a clone of each node, in order. A wrapped node and one of a weight over 1 share their
+    /// bytes with their clones; a node of the weight 1 is copied. A chain of one node takes no memory but for that
+    /// clone. At want of memory the shares that were made are given back and absorbed. O(nodes).
     pub fn share_all(&mut self, alloc: Global, mint: &mut Mint) -> Result<Chain<'a, O>, AllocError>
         ensures shares { IfOk result (λ c. ClonesEach mint.old mint.new self.old self.new c) }
         ensures refused { OnErr result (AllZip Regains self.old self.new) }

@@ -12,7 +12,8 @@ use iobuf_node::IoBuf;
 use storage::Told;
 
 impl<'a, O: Told> Chain<'a, O> {
-    /// The first `n` bytes leave their windows, to the room before them. The nodes stay, without data too. O(nodes that lose bytes), and no memory.
+    /// The first `n` bytes leave their windows, to the room before them. The nodes stay, without data too. O(nodes
+    /// that lose bytes), and no memory.
     pub fn trim_start(&mut self, n: usize)
         requires { n ≤ length (bytes_of self.old) }
         ensures nodes { self.new ≡ trimmed_front n self.old }
@@ -23,7 +24,8 @@ impl<'a, O: Told> Chain<'a, O> {
         self.sum -= n;
     }
 
-    /// The last `n` bytes leave their windows, to the room behind them. The nodes stay, without data too. O(nodes that lose bytes), and no memory.
+    /// The last `n` bytes leave their windows, to the room behind them. The nodes stay, without data too. O(nodes
+    /// that lose bytes), and no memory.
     pub fn trim_end(&mut self, n: usize)
         requires { n ≤ length (bytes_of self.old) }
         ensures nodes { self.new ≡ trimmed_back n self.old }

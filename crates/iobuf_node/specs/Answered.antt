@@ -6,7 +6,8 @@ use Rattle.buffer_model.specs.Segment.{Segment}
 use Rattle.storage.specs.Back.{stakes_if}
 use Rattle.storage.specs.declared.back.Back.{Back}
 
--- a call that had this node, and has these things afterwards, keeps the totals of the storages that were numbered before it
+-- a call that had this node, and has these things afterwards, keeps the totals of the storages that were numbered
+-- before it
 abbrev pub KeepsFor : {O : Type 0} → Numbers → Segment O → List (Stake O) → Type 0
 KeepsFor old before exit = KeepsTotalsBelow (length old) (held before.share ∷ []) exit
 

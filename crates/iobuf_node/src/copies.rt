@@ -13,7 +13,9 @@ use std::alloc::{AllocError, Global};
 use storage::{Managed, Told};
 
 impl<'a, O: Told> IoBuf<'a, O> {
-    /// A second node with the same three lists. A managed node shares its storage: the second has a part of the weight, without an allocation or a copy. At weight 1 the second is a copy of the whole block on a new storage. A wrapped node's is wrapped too, and takes no memory.
+    /// A second node with the same three lists. A managed node shares its storage: the second has a part of the
+    /// weight, without an allocation or a copy. At weight 1 the second is a copy of the whole block on a new storage.
+    /// A wrapped node's is wrapped too, and takes no memory.
     pub fn clone_one(&mut self, alloc: Global, mint: &mut Mint) -> Result<IoBuf<'a, O>, AllocError>
         ensures clone { IfOk result (Clones mint.old mint.new self.old self.new) }
         ensures wrapped { self.old.share.number ≡ None → IsOk result }
@@ -26,7 +28,9 @@ impl<'a, O: Told> IoBuf<'a, O> {
         }
     }
 
-    /// A second node with the same three lists on the same storage, which has a part of the weight. `None` exactly at a weight below 2, which a wrapped node has too. It takes no memory and copies no byte: the count of a shared pointer grows by one, and where that is refused the node is as it was. O(1).
+    /// A second node with the same three lists on the same storage, which has a part of the weight. `None` exactly at
+    /// a weight below 2, which a wrapped node has too. It takes no memory and copies no byte: the count of a shared
+    /// pointer grows by one, and where that is refused the node is as it was. O(1).
     #[inline(always)]
     pub fn share_one(&mut self) -> Result<Option<IoBuf<'a, O>>, AllocError>
         ensures none { IfOk result (λ o. IsNone o ↔ (self.old.share.weight < 2)) }
@@ -58,7 +62,8 @@ impl<'a, O: Told> IoBuf<'a, O> {
         }
     }
 
-    /// A node that borrows nothing: a wrapped node's whole block is copied to a new storage, rooms too; another stays as it is. At want of memory the node is handed back.
+    /// A node that borrows nothing: a wrapped node's whole block is copied to a new storage, rooms too; another stays
+    /// as it is. At want of memory the node is handed back.
     pub fn into_managed(
         self,
         alloc: Global,
@@ -111,7 +116,8 @@ impl<'a, O: Told> IoBuf<'a, O> {
         })
     }
 
-    /// A second node with the same three lists, on a copy of the whole block on a new storage. One copy. Four allocations: the block, and three for its count.
+    /// A second node with the same three lists, on a copy of the whole block on a new storage. One copy. Four
+    /// allocations: the block, and three for its count.
     #[inline(never)]
     pub fn duplicate(&self, alloc: Global, mint: &mut Mint) -> Result<IoBuf<'static, O>, AllocError>
         ensures node { IfOk result (MovesOut mint.old mint.new self.now) }

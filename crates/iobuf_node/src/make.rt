@@ -33,7 +33,8 @@ impl<O: Told> IoBuf<'static, O> {
         }
     }
 
-    /// A node on a copy of these bytes, with zero bytes in both rooms. One copy. Four allocations: the block, and three for its count.
+    /// A node on a copy of these bytes, with zero bytes in both rooms. One copy. Four allocations: the block, and
+    /// three for its count.
     pub fn copy(
         alloc: Global,
         bytes: &[u8],
@@ -53,7 +54,8 @@ impl<O: Told> IoBuf<'static, O> {
         }
     }
 
-    /// A node on these bytes, where they are, all of them data. The owner is told them when their storage ends. No copy, three allocations for the count. At want of memory both are handed back.
+    /// A node on these bytes, where they are, all of them data. The owner is told them when their storage ends. No
+    /// copy, three allocations for the count. At want of memory both are handed back.
     pub fn take_ownership(
         alloc: Global,
         bytes: Vec<u8>,
@@ -73,7 +75,8 @@ impl<O: Told> IoBuf<'static, O> {
         }
     }
 
-    /// A node on these bytes, where they are, all of them data. Their storage answers the tag when it ends. No copy, three allocations for the count. At want of memory the bytes are handed back.
+    /// A node on these bytes, where they are, all of them data. Their storage answers the tag when it ends. No copy,
+    /// three allocations for the count. At want of memory the bytes are handed back.
     pub fn take_tagged(
         alloc: Global,
         bytes: Vec<u8>,
@@ -93,7 +96,8 @@ impl<O: Told> IoBuf<'static, O> {
         }
     }
 
-    /// A node on a lent block, where it is: its first `used` bytes are data. No copy, three allocations for the count. At want of memory the block is handed back.
+    /// A node on a lent block, where it is: its first `used` bytes are data. No copy, three allocations for the
+    /// count. At want of memory the block is handed back.
     pub fn from_lent(
         alloc: Global,
         block: Lent,

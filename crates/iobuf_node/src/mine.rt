@@ -7,7 +7,8 @@ ghost use Rattle.iobuf_node.specs.Mine.{seen, size};
 
 use storage::{Managed, NoOwner, Told};
 
-/// The window of a node, as `IoBuf::mine` lends it where nobody else holds the storage: until the node is shared, its bytes may be written. Contracts see it by `seen`: its three lists, and what the node has of the storage.
+/// The window of a node, as `IoBuf::mine` lends it where nobody else holds the storage: until the node is shared, its
+/// bytes may be written. Contracts see it by `seen`: its three lists, and what the node has of the storage.
 #[derive(Drop)]
 pub struct Mine<O: Told = NoOwner> {
     pub(crate) hold: Managed<O>,
@@ -42,7 +43,8 @@ impl<O: Told> Mine<O> {
         self.hold.bytes().len() - self.head() - self.length()
     }
 
-    /// The data, for writing. Where as many bytes are written, the window has these and both rooms stay (`laws::writes_window`). Takes no look.
+    /// The data, for writing. Where as many bytes are written, the window has these and both rooms stay
+    /// (`laws::writes_window`). Takes no look.
     pub fn bytes_mut(&mut self) -> &mut [u8]
         requires { IsAlone (seen self.old).share }
         ensures* lends { sem 𝓛 (lends_window O.row self.entry result) }
@@ -55,7 +57,8 @@ impl<O: Told> Mine<O> {
         self.hold.span_mut(start, start + len)
     }
 
-    /// Copies the data `n` places on, and follows it. Takes no look. One overlapping copy in the block, O(data), and no memory.
+    /// Copies the data `n` places on, and follows it. Takes no look. One overlapping copy in the block, O(data), and
+    /// no memory.
     pub fn advance(&mut self, n: usize)
         requires alone { IsAlone (seen self.old).share }
         requires room { n ≤ length (seen self.old).after }
@@ -70,7 +73,8 @@ impl<O: Told> Mine<O> {
         self.len = len;
     }
 
-    /// Copies the data `n` places back, and follows it. Takes no look. One overlapping copy in the block, O(data), and no memory.
+    /// Copies the data `n` places back, and follows it. Takes no look. One overlapping copy in the block, O(data),
+    /// and no memory.
     pub fn retreat(&mut self, n: usize)
         requires alone { IsAlone (seen self.old).share }
         requires room { n ≤ length (seen self.old).before }

@@ -12,7 +12,9 @@ use std::fmt;
 use std::marker::Model;
 use storage::{Back, Barred, Managed, NoOwner, Receipt, Release, Told};
 
-/// A window on a block: some bytes, with the room before and after them. A drop gives the node's storage back: at the last an owner is told, but a lent block and a tag go nowhere, and the receipt is lost. Contracts see the three lists, and what the node has of the storage.
+/// A window on a block: some bytes, with the room before and after them. A drop gives the node's storage back: at the
+/// last an owner is told, but a lent block and a tag go nowhere, and the receipt is lost. Contracts see the three
+/// lists, and what the node has of the storage.
 #[derive(Drop)]
 pub struct IoBuf<'a, O: Told = NoOwner> {
     pub(crate) wrapped: Option<&'a [u8]>,

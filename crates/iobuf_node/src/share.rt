@@ -17,7 +17,8 @@ use std::mem;
 use storage::{Back, Release};
 
 impl<'a, O: Release> IoBuf<'a, O> {
-    /// Makes both rooms at least this large. Where one isn't, the data is copied to a new storage with exactly these rooms, zero, and the old storage is given back. At most one copy of the data, with four allocations.
+    /// Makes both rooms at least this large. Where one isn't, the data is copied to a new storage with exactly these
+    /// rooms, zero, and the old storage is given back. At most one copy of the data, with four allocations.
     pub fn reserve(
         &mut self,
         alloc: Global,
@@ -93,7 +94,8 @@ impl<'a, O: Release> IoBuf<'a, O> {
         }
     }
 
-    /// Leaves a shared storage: where a look finds that others may hold it, or where it is wrapped, the whole block is copied to a new storage, rooms too, and the old one is given back.
+    /// Leaves a shared storage: where a look finds that others may hold it, or where it is wrapped, the whole block
+    /// is copied to a new storage, rooms too, and the old one is given back.
     pub fn unshare_one(
         &mut self,
         alloc: Global,

@@ -26,7 +26,8 @@ pub record GoodReading (codec : Codec) (block limit : ℕ) : Type 0 where
   pub block_in : IsBetween 1 1048576 block
   pub limit_in : limit ≤ 1099511627776
 
--- each frame fits what it is written as, and there are subscribers whose places are in order, with names that differ from each other and from the input's
+-- each frame fits what it is written as, and there are subscribers whose places are in order, with names that differ
+-- from each other and from the input's
 pub record GoodWriting (codec : Codec) (out : Out) (cap : ℕ) (input : List ℕ) (subs : List SubWord) : Type 0 where
   pub passed : out_fault out ≡ None
   pub fits : out_over codec out ≡ false

@@ -1,7 +1,8 @@
 -- An item of the words behind a command.
 use Rattle.std.specs.Prelude.{ℕ, Bool, ◌==◌, List, [], Option, length, unwrap_or}
 
--- an option with its value, where it has one, or a word by itself, which has no name; and the places of the option and of the value among all words
+-- an option with its value, where it has one, or a word by itself, which has no name; and the places of the option
+-- and of the value among all words
 pub record Item : Type 0 where
   pub at : ℕ
   pub name : List ℕ

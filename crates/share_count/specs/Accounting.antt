@@ -30,7 +30,8 @@ abbrev pub IsHoused : Storage → Option (List ℕ) → Type 0
 IsHoused b (Some bytes) = b.runs ≡ 0
 IsHoused b None = (b.word ≡ 0) × (b.runs ≡ 1)
 
--- the accounts of the storage i: the word is the sum of the live weights; these, the absorbed weights and the receipts are all its weight; there is one last where nothing is live, and else none; and the payload
+-- the accounts of the storage i: the word is the sum of the live weights; these, the absorbed weights and the
+-- receipts are all its weight; there is one last where nothing is live, and else none; and the payload
 abbrev pub IsBalanced : Stock → ℕ → Storage → Type 0
 IsBalanced s i b = (b.word ≡ over (live i) s.holds)
     × (over (live i) s.holds + over (taken_in i) s.holds + over (given_back i) s.slips ≡ full)

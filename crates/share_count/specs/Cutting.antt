@@ -20,7 +20,8 @@ together v w = entry (v.live + w.live) (v.held + w.held) (v.lasts + w.lasts) v.l
 abbrev pub noted : Entry → ℕ → Entry
 noted v n = entry v.live v.held v.lasts (v.loads + 1) n v.parts v.pool v.out
 
--- a look: it finds at least the own weight, and exactly that where all weight is the seat's, or where the payload is its own
+-- a look: it finds at least the own weight, and exactly that where all weight is the seat's, or where the payload is
+-- its own
 abbrev pub Looks : Me (Unit {0}) Entry → ℕ → Me (Unit {0}) Entry → Type 0
 Looks v found w = (w ≡ (noted v.0 found, v.1)) × (v.0.live ≤ found)
     × (v.0.live + v.0.held ≡ 2 ^ 62 → found ≡ v.0.live) × (v.0.parts < v.0.live → found ≡ v.0.live)

@@ -5,7 +5,8 @@ use base.Stored.{coded_via}
 use Rattle.atomic_table.specs.Seated.{TableId, table_id_coded}
 use Rattle.share_count.specs.Weights.{full, part}
 
--- a unit: its storage and the number of that; its weight, and the weight that it absorbed; how often it looked, and the weight of all live units as it was last found; whether the payload is its own; and the payload
+-- a unit: its storage and the number of that; its weight, and the weight that it absorbed; how often it looked, and
+-- the weight of all live units as it was last found; whether the payload is its own; and the payload
 pub record Owned (X : Type 0) : Type 0 where
   pub table : TableId
   pub number : ℕ
@@ -31,7 +32,8 @@ owned_coded {X} c = coded_via (coded× table_id_coded
       payload = (e i).1.1.1.1.1.1.1;
     })
 
--- a receipt for weight that was given back: the storage and its number, the weight, and how many of those that gave it back were the last
+-- a receipt for weight that was given back: the storage and its number, the weight, and how many of those that gave
+-- it back were the last
 pub record Tally : Type 0 where
   pub table : TableId
   pub number : ℕ

@@ -21,13 +21,15 @@ pub record Slip : Type 0 where
   pub weight : ℕ
   pub lasts : ℕ
 
--- all storages, holds and receipts by number. A hold that was given back is gone, and so is a receipt that was joined to another or absorbed
+-- all storages, holds and receipts by number. A hold that was given back is gone, and so is a receipt that was joined
+-- to another or absorbed
 pub record Stock : Type 0 where
   pub storages : List (Option Storage)
   pub holds : List (Option Hold)
   pub slips : List (Option Slip)
 
--- a storage is made with these bytes; the hold is shared; it looks; it writes these bytes; it gives back; the release of the storage runs; the second receipt is joined to the first; the hold absorbs the receipt
+-- a storage is made with these bytes; the hold is shared; it looks; it writes these bytes; it gives back; the release
+-- of the storage runs; the second receipt is joined to the first; the hold absorbs the receipt
 pub data Event : Type 0 where
   make : List ℕ → Event
   share : ℕ → Event

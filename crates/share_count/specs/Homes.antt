@@ -48,7 +48,8 @@ module _ {X : Type 0} where
   home_with (Lent loan) x = Lent loan
   home_with (Moving trace) x = Moving trace
 
-  -- a unit of this weight on this table, whose seat knows v, has its payload so: it is its own, and the seat has no parts; or it is lent, and the seat has as many parts as weight, out of the pool of the loan
+  -- a unit of this weight on this table, whose seat knows v, has its payload so: it is its own, and the seat has no
+  -- parts; or it is lent, and the seat has as many parts as weight, out of the pool of the loan
   abbrev pub Houses : TableId → ℕ → Entry → Global → Home X → Type 0
   Houses t weight v alloc (Own boxed) = (v.parts ≡ 0) × (boxed.alloc ≡ alloc)
   Houses t weight v alloc (Lent loan) = (loan.table_id ≡ t) × (loan.count ≡ weight) × (v.parts ≡ weight)

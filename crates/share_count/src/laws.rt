@@ -2,7 +2,8 @@
 ghost use Rattle.share_count.specs.Accounting.{StaysRight, RunsOnce, SoleIsAlone, KeepsBytes, WorkedWeights, WorkedHistory};
 ghost use Rattle.share_count.specs.Numbered.{NumbersOneStorage, KeepsNumbers, NumbersNew};
 
-/// After every list of events the accounts are right: of the word, of all weight, of the lasts, and of the payload; and each live hold's bytes are its storage's.
+/// After every list of events the accounts are right: of the word, of all weight, of the lasts, and of the payload;
+/// and each live hold's bytes are its storage's.
 pub fn stays_right()
     ensures { StaysRight }
 {}

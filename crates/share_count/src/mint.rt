@@ -5,7 +5,8 @@ use counted_payload::{Numbers, Word};
 use std::fmt;
 use std::marker::Model;
 
-/// Hands out the numbers 0, 1, 2 and so on, each once. Contracts see the list of the storages that it numbered, in order, with `None` for a number that was handed out by itself. So two storages of one number are one.
+/// Hands out the numbers 0, 1, 2 and so on, each once. Contracts see the list of the storages that it numbered, in
+/// order, with `None` for a number that was handed out by itself. So two storages of one number are one.
 #[derive(Drop)]
 pub struct Mint {
     count: u64,

@@ -14,7 +14,8 @@ use std::fmt;
 use std::marker::{Model, PhantomData};
 use std::sync::Arc;
 
-/// A receipt for weight of a storage with a payload `P`. Contracts see the storage, its number, the weight and the lasts.
+/// A receipt for weight of a storage with a payload `P`. Contracts see the storage, its number, the weight and the
+/// lasts.
 #[derive(Drop)]
 pub struct Receipt<P> {
     word: Arc<Word, Global>,

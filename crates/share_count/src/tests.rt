@@ -96,7 +96,8 @@ fn alone_until_shared(rt: HostRuntime) -> Result<(), Fail> {
     Ok(())
 }
 
-// A loan steps on the word that it read out of the table by the order of the table's fields. The table's own load finds what the loan's steps made.
+// A loan steps on the word that it read out of the table by the order of the table's fields. The table's own load
+// finds what the loan's steps made.
 #[test]
 fn a_loan_steps_on_the_word_of_the_table(rt: HostRuntime) -> Result<(), Fail> {
     let mut mint = Mint::new();

@@ -45,7 +45,9 @@ impl<P> Model for Unit<P> {
     ghost invariant = { λ u. SeatsUnit u.seat (arc_value u.word).shared.table_id u.weight u.absorbed u.alloc u.home };
 }
 
-/// A new storage with the mint's next number: its one unit has all weight, and the payload is its own. Four allocations, O(1). Where memory is refused, or the mint has no number left, the payload is handed back and the mint is as it was.
+/// A new storage with the mint's next number: its one unit has all weight, and the payload is its own. Four
+/// allocations, O(1). Where memory is refused, or the mint has no number left, the payload is handed back and the
+/// mint is as it was.
 pub fn make<P: Drop>(alloc: Global, payload: P, mint: &mut Mint) -> Result<Unit<P>, P>
     ensures unit { IfOk result (λ u. u ≡ owned u.table (length mint.old) full 0 0 0 true payload) }
     ensures mint { MatchResult result (λ u. mint.new ≡ mint.old ++ Some u.table ∷ []) (λ _. mint.new ≡ mint.old) }
@@ -113,7 +115,8 @@ impl<P: Drop> Unit<P> {
         self.weight + self.absorbed == FULL
     }
 
-    /// Whether the payload is its own, so that it may be written without a step: from its making, or from a claim that found nobody else, until it is shared.
+    /// Whether the payload is its own, so that it may be written without a step: from its making, or from a claim
+    /// that found nobody else, until it is shared.
     pub fn alone(&self) -> bool
         ensures { result ≡ self.now.alone }
     {
@@ -128,7 +131,8 @@ impl<P: Drop> Unit<P> {
         self.home.get()
     }
 
-    /// A unit of a part of the weight: a thousandth or so, at most 2^40, at least 1. `None` exactly at weight 1. No allocation: the count of a shared pointer grows by one, and where that is refused the unit is as it was. O(1).
+    /// A unit of a part of the weight: a thousandth or so, at most 2^40, at least 1. `None` exactly at weight 1. No
+    /// allocation: the count of a shared pointer grows by one, and where that is refused the unit is as it was. O(1).
     #[inline(always)]
     pub fn share(&mut self) -> Result<Option<Unit<P>>, AllocError>
         ensures none { IfOk result (λ o. MatchOption o (self.old.weight ≡ 1) (λ _. 2 ≤ self.old.weight)) }
@@ -161,7 +165,8 @@ impl<P: Drop> Unit<P> {
         }
     }
 
-    /// The look that takes the payload home where nobody else holds the storage: then the unit is alone. Else the weight of all live units as it was found. One load of the word.
+    /// The look that takes the payload home where nobody else holds the storage: then the unit is alone. Else the
+    /// weight of all live units as it was found. One load of the word.
     pub fn claim(&mut self) -> Result<(), u64>
         ensures claimed { self.new ≡ claimed self.old self.new.note }
         ensures found { IsFound self.old.weight self.new.note result }
@@ -177,7 +182,8 @@ impl<P: Drop> Unit<P> {
         self.take_home()
     }
 
-    /// Lends the payload for writing, where a look finds nobody else. Else the weight of all live units as it was found. One load of the word.
+    /// Lends the payload for writing, where a look finds nobody else. Else the weight of all live units as it was
+    /// found. One load of the word.
     pub fn get_mut(&mut self) -> Result<&mut P, u64>
         ensures* lends { sem 𝓛 (lends_alone P.row self.entry result) }
         ensures found { MatchResult result (λ x. x.now ≡ self.old.payload) (λ n. self.old.weight < n) }

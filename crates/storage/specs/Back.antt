@@ -54,7 +54,8 @@ module _ {O : Type 0} where
     abbrev pub GivesBackLast : Held O → Ended O → Tally → Type 0
     GivesBackLast h end r = IsReceiptFor h.share 1 r × EndsSo h.share.way h.bytes end
 
-    -- a hold is given back so: `Kept` only where it isn't whole, with the receipt for all that it has; at the last by the way of its storage; and nothing for wrapped bytes
+    -- a hold is given back so: `Kept` only where it isn't whole, with the receipt for all that it has; at the last by
+    -- the way of its storage; and nothing for wrapped bytes
     abbrev pub GivesBack : Held O → Back O → Type 0
     GivesBack h (Kept r) = IsReceiptFor h.share 0 r × (¬ IsWhole h.share)
     GivesBack h (Done r) = GivesBackLast h Gone r

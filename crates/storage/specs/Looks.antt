@@ -13,7 +13,8 @@ module _ {O : Type 0} where
   StandsAt (Some n) before after standing =
       (after ≡ looked after.note before) × IsStanding before.weight after.note standing
 
-  -- a share before and after one look, and what the look answers: by the word that it found, which is noted. Wrapped bytes always stand as shared
+  -- a share before and after one look, and what the look answers: by the word that it found, which is noted. Wrapped
+  -- bytes always stand as shared
   abbrev pub Stands : Share O → Share O → Standing → Type 0
   Stands before after standing = StandsAt before.number before after standing
 
@@ -26,7 +27,8 @@ module _ {O : Type 0} where
   abbrev pub Bars : Share O → Share O → Barred → Type 0
   Bars before after reason = BarsAt before.number before after reason
 
-  -- a share before and after it was claimed for writing, by one look, and the answer: the storage is its alone where the look found its own weight
+  -- a share before and after it was claimed for writing, by one look, and the answer: the storage is its alone where
+  -- the look found its own weight
   abbrev pub Claims : {U : Type 0} → Share O → Share O → Result U Barred → Type 0
   Claims before after (Ok u) = IsSome before.number × (after ≡ claimed before)
   Claims before after (Err reason) = Bars before after reason

@@ -16,7 +16,9 @@ use std::fmt;
 use std::marker::Model;
 use thiserror::Error;
 
-/// A hold on a storage, or on bytes that are only borrowed. A drop gives the hold back: at the last an owner is told, but a lent block and a tag go nowhere, and the receipt is lost. Contracts see the bytes of the block and what the hold has of the storage.
+/// A hold on a storage, or on bytes that are only borrowed. A drop gives the hold back: at the last an owner is told,
+/// but a lent block and a tag go nowhere, and the receipt is lost. Contracts see the bytes of the block and what the
+/// hold has of the storage.
 #[derive(Drop)]
 pub struct Hold<'a, O: Told = NoOwner> {
     wrapped: Option<&'a [u8]>,
@@ -56,7 +58,8 @@ impl<O: Told> Hold<'static, O> {
         }
     }
 
-    /// A new storage of these bytes, where they are, whose owner is told when it ends. No copy, three allocations for the count. At want of memory both are handed back.
+    /// A new storage of these bytes, where they are, whose owner is told when it ends. No copy, three allocations for
+    /// the count. At want of memory both are handed back.
     pub fn user(
         alloc: Global,
         bytes: Vec<u8>,
@@ -73,7 +76,8 @@ impl<O: Told> Hold<'static, O> {
         }
     }
 
-    /// A new storage of a lent block's bytes, where they are. No copy, three allocations for the count. At want of memory the block is handed back.
+    /// A new storage of a lent block's bytes, where they are. No copy, three allocations for the count. At want of
+    /// memory the block is handed back.
     pub fn lent(alloc: Global, block: Lent, mint: &mut Mint) -> Result<Hold<'static, O>, Lent>
         ensures hold { IfOk result (Makes mint.old mint.new (lent block.number) block.bytes.items) }
         ensures refused { IfErr result (λ b. b ≡ block) }
@@ -85,7 +89,8 @@ impl<O: Told> Hold<'static, O> {
         }
     }
 
-    /// A new storage of these bytes, where they are, which answers the tag when it ends. No copy, three allocations for the count. At want of memory the bytes are handed back.
+    /// A new storage of these bytes, where they are, which answers the tag when it ends. No copy, three allocations
+    /// for the count. At want of memory the bytes are handed back.
     pub fn tagged(
         alloc: Global,
         bytes: Vec<u8>,
@@ -158,7 +163,8 @@ impl<'a, O: Told> Hold<'a, O> {
         self.wrapped.is_none() && self.managed.whole()
     }
 
-    /// Looks whether others hold the storage, by one load of its count. Wrapped bytes always stand as `Shared { found: 0 }`.
+    /// Looks whether others hold the storage, by one load of its count. Wrapped bytes always stand as `Shared {
+    /// found: 0 }`.
     pub fn standing(&mut self) -> Standing
         ensures bytes { self.new ≡ with_share self.old self.new.share }
         ensures found { Stands self.old.share self.new.share result }
@@ -181,7 +187,8 @@ impl<'a, O: Told> Hold<'a, O> {
         }
     }
 
-    /// Claims the storage for writing, where a look finds that nobody else holds it: `bytes_mut` may then be called until the next share. No memory.
+    /// Claims the storage for writing, where a look finds that nobody else holds it: `bytes_mut` may then be called
+    /// until the next share. No memory.
     pub fn write(&mut self) -> Result<(), Barred>
         ensures bytes { self.new ≡ with_share self.old self.new.share }
         ensures claim { Claims self.old.share self.new.share result }
@@ -203,7 +210,8 @@ impl<'a, O: Told> Hold<'a, O> {
         self.managed.bytes_mut()
     }
 
-    /// A second hold with the same bytes. On a storage it has a part of the weight: `max(1, min(w / 1024, 2^40))` of the weight w, and `Ok(None)` comes exactly at weight 1. Wrapped bytes always share, without memory.
+    /// A second hold with the same bytes. On a storage it has a part of the weight: `max(1, min(w / 1024, 2^40))` of
+    /// the weight w, and `Ok(None)` comes exactly at weight 1. Wrapped bytes always share, without memory.
     pub fn share(&mut self) -> Result<Option<Hold<'a, O>>, AllocError>
         ensures shares { IfOk result (SharesAs self.old self.new) }
         ensures wrapped { self.old.share.number ≡ None → IsOk result }

@@ -33,7 +33,8 @@ impl<O: Told> Managed<O> {
         hold_on(alloc, Stored::own(block), mint)
     }
 
-    /// A new storage of these bytes, where they are, whose owner is told when it ends. No copy, three allocations for the count. At want of memory both are handed back.
+    /// A new storage of these bytes, where they are, whose owner is told when it ends. No copy, three allocations for
+    /// the count. At want of memory both are handed back.
     pub fn user(
         alloc: Global,
         bytes: Vec<u8>,
@@ -56,7 +57,8 @@ impl<O: Told> Managed<O> {
         ))
     }
 
-    /// A new storage of a lent block's bytes, where they are. No copy, three allocations for the count. At want of memory the block is handed back.
+    /// A new storage of a lent block's bytes, where they are. No copy, three allocations for the count. At want of
+    /// memory the block is handed back.
     pub fn lent(alloc: Global, block: Lent, mint: &mut Mint) -> Result<Managed<O>, Lent>
         ensures hold { IfOk result (Makes mint.old mint.new (lent block.number) block.bytes.items) }
         ensures refused { IfErr result (λ b. b ≡ block) }
@@ -75,7 +77,8 @@ impl<O: Told> Managed<O> {
         ))
     }
 
-    /// A new storage of these bytes, where they are, which answers the tag when it ends. No copy, three allocations for the count. At want of memory the bytes are handed back.
+    /// A new storage of these bytes, where they are, which answers the tag when it ends. No copy, three allocations
+    /// for the count. At want of memory the bytes are handed back.
     pub fn tagged(
         alloc: Global,
         bytes: Vec<u8>,
@@ -129,7 +132,8 @@ fn hold_on<O: Told>(
     }
 }
 
-// A unit with a storage of no bytes, which is yet to be filled: so that nothing is handed over before the memory is there.
+// A unit with a storage of no bytes, which is yet to be filled: so that nothing is handed over before the memory is
+// there.
 fn empty<O: Told>(alloc: Global, mint: &mut Mint) -> Result<Unit<Stored<O>>, AllocError>
     ensures unit { IfOk result (λ u. IsMade mint.old mint.new u) }
     ensures refused { OnErr result (mint.new ≡ mint.old) }

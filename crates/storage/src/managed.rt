@@ -88,7 +88,8 @@ impl<O: Told> Managed<O> {
         }
     }
 
-    /// Looks whether others hold the storage, by one load of its count. Without a storage it stands as `Shared { found: 0 }`.
+    /// Looks whether others hold the storage, by one load of its count. Without a storage it stands as `Shared {
+    /// found: 0 }`.
     pub fn standing(&mut self) -> Standing
         ensures bytes { self.new ≡ with_share self.old self.new.share }
         ensures found { Stands self.old.share self.new.share result }
@@ -101,7 +102,8 @@ impl<O: Told> Managed<O> {
         }
     }
 
-    /// Claims the storage for writing, where a look finds that nobody else holds it: until the next share, its bytes may then be written. No memory.
+    /// Claims the storage for writing, where a look finds that nobody else holds it: until the next share, its bytes
+    /// may then be written. No memory.
     pub fn write(&mut self) -> Result<(), Barred>
         ensures bytes { self.new ≡ with_share self.old self.new.share }
         ensures claim { Claims self.old.share self.new.share result }
@@ -166,7 +168,8 @@ impl<O: Told> Managed<O> {
         self.block_mut().copy_within(from, to, n);
     }
 
-    /// A second hold on the storage, with a part of the weight: `max(1, min(w / 1024, 2^40))` of the weight w. `Ok(None)` exactly at weight 1. Without a storage the second has none either, and no memory is taken.
+    /// A second hold on the storage, with a part of the weight: `max(1, min(w / 1024, 2^40))` of the weight w.
+    /// `Ok(None)` exactly at weight 1. Without a storage the second has none either, and no memory is taken.
     #[inline(always)]
     pub fn share(&mut self) -> Result<Option<Managed<O>>, AllocError>
         ensures shares { IfOk result (SharesAs self.old self.new) }

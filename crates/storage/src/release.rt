@@ -12,13 +12,15 @@ pub trait Release: Drop {
     /// The bytes that it was told latest, where it shows them.
     ghost last: { Self → Option (List ℕ) };
 
-    /// The storage has ended with these bytes. What is ensured holds below 2^63 runs; beyond, the count may stand still.
+    /// The storage has ended with these bytes. What is ensured holds below 2^63 runs; beyond, the count may stand
+    /// still.
     fn released(&mut self, bytes: Vec<u8>)
         ensures runs { runs self.old < 2 ^ 63 → runs self.new ≡ runs self.old + 1 }
         ensures last { IfSome (last self.new) (λ xs. xs ≡ bytes.items) };
 }
 
-/// Who may own a storage: everything that is `Release`. It has no meanings of its own, so that holds are bounded by it, also of boxed owners.
+/// Who may own a storage: everything that is `Release`. It has no meanings of its own, so that holds are bounded by
+/// it, also of boxed owners.
 pub trait Told: Drop {
     /// Ends a storage by its way of release, as a hold that is given back does.
     fn end(stored: Stored<Self>) -> Ended<Self>;

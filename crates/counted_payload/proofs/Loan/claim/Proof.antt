@@ -83,7 +83,8 @@ claim_spec 𝓤 𝓛 𝓜 𝓡 wired X Z L LZ g d dd met md =
     use1 𝓛 (given (InBlock p) (given (InBlock w) (‵ (tokens n₀ l.count) ⊛ ‵ (sight 𝓛 R P g l) ⊛ ‵ (K w)))) (loan_apart 𝓛 R P g l (hand_of p w ∷ [])) $ learn ! (λ inside. learn ! (λ at_word. split3 ! $
     rewrite ! 0 (λ (m : ℕ). ‵ (tokens n₀ m)) wants.3 refl $ move ! (2 ∷ []) $
     use1 𝓛 (given (InBlock w) (‵ (K w) ⊛ ‵ (K w))) (known_twice 𝓛 unit entry_code Accounted out_of w (place z) z n₀ l.pool deed) $ learn ! (λ _. split ! $
-    -- [what is known, twice; the tokens; what they show; the `&`; the others of the parameters; the tokens of the lifetimes]
+    -- [what is known, twice; the tokens; what they show; the `&`; the others of the parameters; the tokens of the
+    -- lifetimes]
     fpick ! (λ ij. fsplit3 ! $ fpick ! (λ near. drop ! $ move ! (5 ∷ []) $ fsplit ! $ drop ! $ move ! (6 ∷ []) $ fsplit ! $ fsplit3 ! $
     keep ! (4 ∷ 10 ∷ 1 ∷ 2 ∷ 11 ∷ 12 ∷ 5 ∷ 6 ∷ 8 ∷ 7 ∷ 9 ∷ []) $ rewrite ! 9 (λ (π : Ptr). ‵ (K π)) (at_block w near.1.0) refl $
     enter ! 𝓣.C 𝓣.Λ fn (hand_of p w ∷ vptr b o ∷ vptr b' o' ∷ vint w64 k ∷ []) Exit $ alloc_all ! (λ l'. pass_all ! refl (hand_good p w inside near.1.0, ((tt, tt), ((tt, tt), ((tt, record { fits = are.1.1.1.0.1 }), tt)))) $ let Locals = env fn.locals l' in
@@ -92,7 +93,8 @@ claim_spec 𝓤 𝓛 𝓜 𝓡 wired X Z L LZ g d dd met md =
     sets ! (is ! (of_opd ! (get_in ! (fld ! refl (stop !)) (sub ! 1 refl (whole !)))) (ap ptr_val (at_block w near.1.0))) refl (tt, tt) $ first ! $ blocks ! $
     use1 𝓛 (‵ (hidden_shr WordData κ (t.words, (t.slots, (tt, tt))) b o) ⊛ ‵ (lasts t.table_id κ) ⊛ ‵ (common unit entry_code.code Accounted t.words t.slots t.table_id)) (word_shows 𝓛 κ t b o) $
     split3 ! $ drop ! $ move ! (1 ∷ []) $ drop ! $ rewrite ! 0 (λ (u : TableId). ‵ (lasts u κ)) wants.1 refl $
-    -- [that the table lasts; its token; the seat's name and borrow and token; the other tokens; the two invariants; the parts]
+    -- [that the table lasts; its token; the seat's name and borrow and token; the other tokens; the two invariants;
+    -- the parts]
     shr_bor-open ! tt (tokens_halve 𝓛 α) (λ s. let out : ℕ → Fml = counting.claim 𝓛 w z n₀ l.pool id k deed v s in
     move ! (2 ∷ 3 ∷ 4 ∷ []) $ opens ! tt Sr b' o' (λ ts. move ! (1 ∷ []) $ fsplit ! $ rewrite ! 1 (λ (u : TableId). ‵ (mine unit entry_code.code u id v)) wants.0 refl $ move ! (1 ∷ 11 ∷ []) $ fjoin ! $
     move ! (9 ∷ 10 ∷ 7 ∷ 0 ∷ []) $ group ! 4 $
@@ -111,7 +113,8 @@ claim_spec 𝓤 𝓛 𝓜 𝓡 wired X Z L LZ g d dd met md =
     let out_ : Fr.Denot = record { at = p; marker = record {}; value = x; alloc = l.alloc; round = n₀; count = k; found = n } in
     let stays : Kr.Denot = record { at = p; word = w'; marker = record {}; value = x; alloc = l.alloc; table_id = z; round = n₀; pool = l.pool; count = k; found = n } in
     let Says : Type 0 = (z ≡ h.table_id) × (id ≡ id) × (h'.me ≡ h'.me) × Gave v.0 k n × (n ≡ n) × (x ≡ x) × (l.alloc ≡ l.alloc) × (k ≡ k) × (n ≡ n) × (x ≡ x) × (l.alloc ≡ l.alloc) × (z ≡ z) × (l.pool ≡ l.pool) × (k ≡ k) in
-    -- [the seat; the gain and what stays; the token; the seat's field and cell and open borrow; the other tokens; what is known; what the parts show]
+    -- [the seat; the gain and what stays; the token; the seat's field and cell and open borrow; the other tokens;
+    -- what is known; what the parts show]
     move ! (3 ∷ 0 ∷ []) $ fjoin ! $ move ! (3 ∷ 0 ∷ 4 ∷ 5 ∷ 6 ∷ []) $ closes ! tt Sr h' ts b' o' $ feq_i ! (List Val) (vptr b' o' ∷ []) (vptr b' o' ∷ []) refl $ fjoin3 ! $
     nothing ! $ nothing ! $ fjoin ! $ move ! (1 ∷ 0 ∷ []) $ fjoin ! $ nothing ! $ fjoin ! $ nothing ! $ fjoin ! $ move ! (1 ∷ 4 ∷ []) $ join ! $ move ! (3 ∷ 0 ∷ []) $ join ! $
     -- [the tokens; the parameters; the gain and what stays; what is known; what the parts show]

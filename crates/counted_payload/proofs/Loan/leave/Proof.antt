@@ -88,7 +88,8 @@ leave_spec 𝓤 𝓛 𝓜 𝓡 wired X Z L LZ g d dd met md =
     sets ! (is ! (of_opd ! (get_in ! (fld ! refl (stop !)) (sub ! 1 refl (whole !)))) (ap ptr_val (at_block w near.1.0))) refl (tt, tt) $ first ! $ blocks ! $
     use1 𝓛 (‵ (hidden_shr WordData κ (t.words, (t.slots, (tt, tt))) b o) ⊛ ‵ (lasts t.table_id κ) ⊛ ‵ (common unit entry_code.code Accounted t.words t.slots t.table_id)) (word_shows 𝓛 κ t b o) $
     split3 ! $ drop ! $ move ! (1 ∷ []) $ drop ! $ rewrite ! 0 (λ (u : TableId). ‵ (lasts u κ)) wants.1 refl $
-    -- [that the table lasts; its token; the seat's name and borrow and token; the other tokens; the two invariants; the parts]
+    -- [that the table lasts; its token; the seat's name and borrow and token; the other tokens; the two invariants;
+    -- the parts]
     shr_bor-open ! tt (tokens_halve 𝓛 α) (λ s. let out : ℕ → Fml = counting.left 𝓛 w z n₀ l.pool id k deed v s in
     move ! (2 ∷ 3 ∷ 4 ∷ []) $ opens ! tt Sr b' o' (λ ts. move ! (1 ∷ []) $ fsplit ! $ rewrite ! 1 (λ (u : TableId). ‵ (mine unit entry_code.code u id v)) wants.0 refl $ move ! (1 ∷ 11 ∷ []) $ fjoin ! $
     move ! (9 ∷ 10 ∷ 7 ∷ 0 ∷ []) $ group ! 4 $

@@ -145,7 +145,8 @@ lend_spec 𝓤 𝓛 𝓜 𝓡 wired X Z L LZ g d dd met md =
     let h' : Sr.Denot = record { marker = h.marker; table_id = z; id = id; me = (lent me.0 k pool, me.1) } in
     let new : Lr.Denot = record { at = p; word = w; marker = record {}; value = x; alloc = a; table_id = z; round = n₀; pool = pool; count = k } in
     let Says : Type 0 = (z ≡ h.table_id) × (id ≡ id) × (h'.me ≡ h'.me) × (a ≡ a) × (a ≡ a) × (x ≡ x) × (z ≡ z) × (k ≡ k) in
-    -- [the seat; the new seat; the token; the seat's field and cell and open borrow; the table's fields and invariant; the other tokens; the handle; the deed; the parts; the others]
+    -- [the seat; the new seat; the token; the seat's field and cell and open borrow; the table's fields and
+    -- invariant; the other tokens; the handle; the deed; the parts; the others]
     move ! (3 ∷ 0 ∷ []) $ fjoin ! $ move ! (3 ∷ 0 ∷ 4 ∷ 5 ∷ 6 ∷ []) $ closes ! tt Sr h' ts b' o' $ feq_i ! (List Val) start.0.4.1.1.1.0 (vptr b' o' ∷ []) em $ fjoin3 ! $
     move ! (10 ∷ 8 ∷ []) $ fjoin ! $ use1 𝓛 (‵ (others entry_code.code out_of z n₀ pool (deeds p) u)) (record { apply = λ r h₁ _. h₁ }) $ move ! (3 ∷ 0 ∷ []) $ fjoin ! $ fpack ! Entry (pooled entry_code.code out_of z n₀ pool (deeds p)) u $
     move ! (5 ∷ []) $ fsplit ! $ drop ! $ use1 𝓛 (some (λ (i : ℕ). ‵ (fnamed i PI))) (𝓛.invs.inv_named PI) $ pick ! (λ i. move ! (1 ∷ []) $
