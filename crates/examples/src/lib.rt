@@ -1,7 +1,7 @@
 //! A first use of the library: the units of a stream that comes in pieces.
 #![tactic(auto)]
 
-ghost use Rattle.std.specs.Prelude.{◌≡◌, ℕ, ◌+◌, ◌<◌, ◌^◌, List, [], ◌++◌, flat_map, length, IfOk, OnOk};
+ghost use Rattle.std.specs.Prelude.{◌≡◌, ℕ, ◌+◌, ◌<◌, ◌^◌, List, [], ◌++◌, flat_map, length, IfOk, IsErrOf, IsTrue, OnOk};
 ghost use Rattle.frame_head.specs.Units.{ended};
 ghost use Rattle.frame_rule.specs.Decoding.{TakesIn};
 ghost use Rattle.frame_rule.specs.Units.{units_of};
@@ -26,6 +26,8 @@ pub fn decode<D: Decoder>(
     // However the stream is cut, its units are those of the grammar.
     ensures units { IfOk result (λ found. units_of found.items
         ≡ ended (D.state decoder).codec (flat_map (λ p. p.now) pieces.now)) }
+    // Memory alone is ever wanting.
+    ensures alive { IsErrOf result FeedFault.Dead → ⊥ }
 {
     let mut haul = Haul::new(alloc);
     let mut mint = Mint::new();
@@ -48,6 +50,7 @@ fn feed_copy<D: Decoder>(
     ensures units { OnOk result (TakesIn (D.stands decoder.old) (D.stands decoder.new) (D.state decoder.old).codec
         bytes.now haul.old.units.items haul.new.units.items) }
     ensures codec { OnOk result ((D.state decoder.new).codec ≡ (D.state decoder.old).codec) }
+    ensures dead { IsErrOf result FeedFault.Dead → IsTrue (D.state decoder.old).dead }
 {
     let Ok(node) = IoBuf::copy(alloc, bytes, 0, 0, mint) else {
         return Err(FeedFault::NoMemory);

@@ -10,7 +10,7 @@ use Rattle.iobuf_chain.specs.Accounts.{held_by}
 use Rattle.iobuf_chain.specs.Copies.{WithData, CopiesNoData, IsHeavy, IsStout}
 use Rattle.iobuf_chain.proofs.Accounts.{held_by-append}
 use Rattle.iobuf_chain.proofs.Bytes.{bytes_of-append}
-use Rattle.iobuf_chain.proofs.Copied.{each_behind, each_map, own_numbers, heavy_is_stout}
+use Rattle.iobuf_chain.proofs.Copied.{each_before, each_behind, each_map, own_numbers, heavy_is_stout}
 use Rattle.frame_head.specs.declared.codecs.Codec.{Codec}
 use Rattle.frame_head.specs.Codecs.{last_unit, fault_of}
 use Rattle.frame_head.specs.Units.{units}
@@ -117,6 +117,22 @@ pub settled_some : (nodes now : List (Segment NoOwner)) (h k : Haul) → Settles
 settled_some nodes now h k (inl (same, some, stay)) none = absurd (let e = ap length (ap (λ w. bytes_of w) (sym same) ∙ none) in omega (arith, some, e))
 settled_some nodes now h k (inr (empty, no_bytes, given)) none = empty
 
+-- a piece without bytes is given back: what is kept stays
+pub beside_totals : (kept piece : List (Segment NoOwner)) (h k : Haul) → KeepsTotals (held_by piece ++ hauled h) (hauled k) → KeepsTotals (held_by (kept ++ piece) ++ hauled h) (held_by kept ++ hauled k)
+beside_totals kept piece h k given =
+    let apart : held_by (kept ++ piece) ++ hauled h ≡ held_by kept ++ (held_by piece ++ hauled h) = ap (λ w. w ++ hauled h) (held_by-append kept piece) ∙ append_assoc (held_by kept) (held_by piece) (hauled h) in
+    keeps_then _ _ _ (keeps_equal _ _ apart) (λ n. keeps-append n (held_by kept) (held_by piece ++ hauled h) (held_by kept) (hauled k) (keeps_same (held_by kept) n) (given n))
+
+pub beside_shares : (kept piece : List (Segment NoOwner)) (us vs : List FrameUnit) → WithData IsHeavy (kept ++ piece) → vs ≡ us → SharesData (kept ++ piece) kept us vs
+beside_shares kept piece us vs heavy same =
+    let P : List (Segment NoOwner) → Type 0 = λ w. CopiesNoData (kept ++ piece) w in record {
+      added = [];
+      haul = same ∙ sym (append-nil us);
+      copies = subst P (sym (append-nil kept)) (each_before _ kept piece (own_numbers (kept ++ piece)));
+      heavy = each_before _ kept piece heavy;
+      stout = tt;
+    }
+
 -- the nodes that are kept are the last frame
 pub shares_last : (kept : List (Segment NoOwner)) (us vs : List FrameUnit) (at : ℕ) → WithData IsHeavy kept → vs ≡ us ++ Frame at kept ∷ [] → SharesData kept [] us vs
 shares_last kept us vs at heavy more =
@@ -178,6 +194,18 @@ module _ {S : Type 0} (codec_of : S → Codec) (saw : S → List ℕ → Type 0)
     haul = same ∙ sym (append-nil us);
     halted = halted_now codec_of saw checked (framing codec_of saw p kept) (record (framing codec_of saw p []) { dead = true }) bytes refl refl;
   }
+
+  -- nothing of it is to be taken
+  pub takes_nothing : (p : Progress S) (kept : List (Segment NoOwner)) (bytes : List ℕ) (us vs : List FrameUnit) → bytes ≡ [] → vs ≡ us → TakesAll codec_of saw p p kept kept bytes us vs
+  takes_nothing p kept bytes us vs none same =
+      let d : Framing S NoOwner = framing codec_of saw p kept in
+      let T : List ℕ → Type 0 = λ w. Took codec_of saw d d w [] in
+      let took : Took codec_of saw d d [] [] = record {
+        stands = λ h st. let P : List ℕ → Type 0 = λ w. StandsFor codec_of saw d w in subst P (sym (append-nil h)) st;
+        grew = λ h st. ap (λ w. units (codec_of p.scanner) w) (append-nil h) ∙ sym (append-nil (units (codec_of p.scanner) h));
+        codec = refl;
+        fed = omega arith;
+      } in record { added = []; haul = same ∙ sym (append-nil us); took = subst T (sym none) took }
 
   -- all of it was taken, but not settled
   pub stops_last : (old new : Progress S) (kept after : List (Segment NoOwner)) (p : List ℕ) (us vs ws : List FrameUnit) → TakesAll codec_of saw old new kept after p us vs → ws ≡ vs → StopsAt codec_of saw old new kept p us ws

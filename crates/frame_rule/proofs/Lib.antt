@@ -6,3 +6,5 @@ mod Moving
 mod Sharing
 mod Intakes
 mod Gathered
+mod Tight
+mod Inner

@@ -1,6 +1,6 @@
 -- What is cut off, given back and handed out keeps totals, and shares data.
 use Rattle.std.specs.Option.{is_some}
-use Rattle.std.proofs.Common.{Bool, true, false, not, Result, Ok, Err, OnErr, ◌≡◌, ℕ, zero, suc, ◌-◌, ◌≤◌, List, [], ◌∷◌, ◌++◌, Option, Some, None, length, take, slice_get, refl, ap, sym, subst, ◌∙◌, append_assoc, append-nil, arith, inl, inr, length-drop, if◌then◌else◌}
+use Rattle.std.proofs.Common.{Bool, true, false, not, Result, Ok, Err, IfOk, IsErr, OnErr, ◌≡◌, ℕ, zero, suc, ◌-◌, ◌≤◌, List, [], ◌∷◌, ◌++◌, Option, Some, None, length, take, slice_get, refl, ap, sym, subst, ◌∙◌, append_assoc, append-nil, arith, inl, inr, length-drop, if◌then◌else◌}
 use Rattle.storage.specs.declared.release.NoOwner.{NoOwner}
 use Rattle.storage.specs.declared.back.Back.{Back}
 use Rattle.storage.specs.Back.{stakes_in}
@@ -8,8 +8,8 @@ use Rattle.buffer_model.specs.Share.{Share, IsManaged, wrapped}
 use Rattle.buffer_model.specs.Segment.{Segment, bytes_of, whole_window}
 use Rattle.buffer_model.specs.Stake.{Stake, Keeps, KeepsTotals, KeepsTotalsBelow}
 use Rattle.buffer_model.specs.Minted.{Numbers}
-use Rattle.buffer_model.proofs.Totals.{keeps_same, keeps_equal, keeps_then, keeps_below_then, keeps-append, keeps_wrapped_out, total-append, one_way-append, one_way-front, one_way-back}
-use Rattle.iobuf_chain.specs.Accounts.{held_by}
+use Rattle.buffer_model.proofs.Totals.{keeps_same, keeps_equal, keeps_then, keeps_below, keeps_below_then, keeps-append, keeps_wrapped_in, keeps_wrapped_out, total-append, one_way-append, one_way-front, one_way-back}
+use Rattle.iobuf_chain.specs.Accounts.{answered, held_by}
 use Rattle.iobuf_chain.specs.Copies.{HasNumber, WithData, CopiesNoData, IsHeavy, IsStout, IsShareable}
 use Rattle.iobuf_chain.specs.Trims.{trimmed_front, trimmed_back}
 use Rattle.iobuf_chain.proofs.Accounts.{held_by-append}
@@ -303,3 +303,109 @@ pub none_of : (o p : Option ℕ) (b : Bool) → is_some o ≡ not b → o ≡ p 
 none_of None p b is same holds = sym same
 none_of (Some n) p true is same holds = absurd (cc is)
 none_of (Some n) p false is same holds = absurd (cc holds)
+
+-- a node without a storage has nothing of one
+pub beside_nothing : (m : ℕ) (nodes none : List (Segment NoOwner)) → none ≡ whole_window [] wrapped ∷ [] → KeepsTotalsBelow m (held_by nodes) (held_by (nodes ++ none))
+beside_nothing m nodes none is n lt =
+    let P : List (Segment NoOwner) → Type 0 = λ w. Keeps (held_by nodes) (held_by (nodes ++ w)) n in
+    let apart : held_by nodes ++ held_by (whole_window [] wrapped ∷ []) ≡ held_by (nodes ++ whole_window [] wrapped ∷ []) = sym (held_by-append nodes (whole_window [] wrapped ∷ [])) in
+    let more : KeepsTotals (held_by nodes) (held_by nodes ++ held_by (whole_window [] wrapped ∷ [])) =
+    keeps_then _ _ _ (keeps_equal _ _ (sym (append-nil (held_by nodes)))) (beside_first (held_by nodes) [] _ (keeps_wrapped_in wrapped [] [] refl (keeps_same []))) in
+    subst P (sym is) (keeps_then _ _ _ more (keeps_equal _ _ apart) n)
+
+-- no bytes are cut off: all nodes stay, and one without data leaves
+pub cuts_none : (had none : List (Segment NoOwner)) → WithData IsHeavy had → none ≡ whole_window [] wrapped ∷ [] → CutsShare had none had
+cuts_none had none heavy is =
+    let F : List (Segment NoOwner) → Type 0 = λ w. CopiesNoData had w × WithData IsStout w in
+    let f : F none = subst F (sym is) (((λ some. absurd (omega (arith, some))), tt), ((λ some. absurd (omega (arith, some))), tt)) in
+    record { front_copies = f.0; rest_copies = own_numbers had; stout = f.1; heavy = heavy }
+
+-- first nodes leave a chain, and then the next ones
+pub cut_twice : (m k : ℕ) (old mid now first next : List (Segment NoOwner)) → m ≤ k → KeepsTotalsBelow m (held_by old) (held_by (mid ++ first)) → KeepsTotalsBelow k (held_by mid) (held_by (now ++ next))
+    → KeepsTotalsBelow m (held_by old) (held_by ((now ++ first) ++ next))
+cut_twice m k old mid now first next more p q =
+    let a : List (Stake NoOwner) = held_by first in
+    let b : List (Stake NoOwner) = held_by next in
+    let u : List (Stake NoOwner) = held_by now in
+    let part : KeepsTotalsBelow k (held_by (mid ++ first)) ((u ++ b) ++ a) = λ n lt.
+    let K : List (Stake NoOwner) → Type 0 = λ w. Keeps w ((u ++ b) ++ a) n in
+    let L : List (Stake NoOwner) → Type 0 = λ w. Keeps (held_by mid) w n in
+    subst K (sym (held_by-append mid first)) (keeps-append n (held_by mid) a (u ++ b) a (subst L (held_by-append now next) (q n lt)) (keeps_same a n)) in
+    let turned : KeepsTotals ((u ++ b) ++ a) (held_by ((now ++ first) ++ next)) =
+    keeps_then _ _ _ (keeps_equal _ _ (append_assoc u b a))
+    (keeps_then _ _ _ (beside_first u (b ++ a) (a ++ b) (swapped b a))
+    (keeps_equal _ _ (sym (append_assoc u a b) ∙ ap (λ w. w ++ b) (sym (held_by-append now first)) ∙ sym (held_by-append (now ++ first) next)))) in
+    keeps_below_then m k _ _ _ more p (keeps_below_then k k _ _ _ (omega arith) part (keeps_below k _ _ turned))
+
+-- nodes that left, as what hands them back
+pub gone_back : (m : ℕ) (old after gone : List (Segment NoOwner)) (h k : Haul) (r : List (Back NoOwner)) → KeepsTotalsBelow m (held_by old) (held_by (after ++ gone)) → KeepsTotals (held_by gone) (stakes_in r)
+    → k.units.items ≡ h.units.items → k.back.items ≡ h.back.items ++ r ∷ [] → KeepsTotalsBelow m (held_by old ++ hauled h) (held_by after ++ hauled k)
+gone_back m old after gone h k r keeps given u b = moved m old after gone (stakes_in r) (hauled h) (hauled k) keeps given (returned_hauled h k r u b)
+
+-- what a haul has stays beside what was cut
+pub cut_beside : (m : ℕ) (old now : List (Segment NoOwner)) (h k : Haul) → KeepsTotalsBelow m (held_by old) (held_by now) → SameHaul h k → KeepsTotalsBelow m (held_by old ++ hauled h) (held_by now ++ hauled k)
+cut_beside m old now h k keeps same n lt = keeps-append n (held_by old) (hauled h) (held_by now) (hauled k) (keeps n lt) (keeps_equal _ _ (sym (same_hauled h k same)) n)
+
+-- the two parts of a chain that was cut further: no data was copied
+pub cuts_further : (had mid rest front next : List (Segment NoOwner)) → CutsShare had front mid → CutsShare mid next rest → CutsShare had front rest
+cuts_further had mid rest front next p q = record {
+  front_copies = p.front_copies;
+  rest_copies = copies_further had mid rest p.rest_copies q.rest_copies;
+  stout = p.stout;
+  heavy = q.heavy;
+}
+
+-- the same where the first part is given up
+pub cuts_later : (had mid frame rest : List (Segment NoOwner)) → CopiesNoData had mid → CutsShare mid frame rest → CutsShare had frame rest
+cuts_later had mid frame rest p q = record {
+  front_copies = copies_further had mid frame p q.front_copies;
+  rest_copies = copies_further had mid rest p q.rest_copies;
+  stout = q.stout;
+  heavy = q.heavy;
+}
+
+-- a frame that was cut comes behind all units before
+pub moves_cut : (m n : Numbers) (before after frame : List (Segment NoOwner)) (g h k l : Haul) (at : ℕ) → SameHaul g h
+    → KeepsTotalsBelow (length m) (held_by before ++ hauled h) (held_by (after ++ frame) ++ hauled k) → NumbersOn m n → Begins h.back.items k.back.items
+    → l.units.items ≡ k.units.items ++ Frame at frame ∷ [] → l.back.items ≡ k.back.items → Moves m n before after g l
+moves_cut m n before after frame g h k l at same keeps numbers back u b = record {
+  totals =
+      let apart : held_by (after ++ frame) ++ hauled k ≡ held_by after ++ (held_by frame ++ hauled k) = ap (λ w. w ++ hauled k) (held_by-append after frame) ∙ append_assoc (held_by after) (held_by frame) (hauled k) in
+      let P : List (Stake NoOwner) → Type 0 = λ w. KeepsTotalsBelow (length m) (held_by before ++ w) (held_by after ++ hauled l) in
+      let on : KeepsTotals (held_by (after ++ frame) ++ hauled k) (held_by after ++ hauled l) =
+      keeps_then _ _ _ (keeps_equal _ _ apart) (beside_first (held_by after) (held_by frame ++ hauled k) (hauled l) (framed_hauled k l at frame u b)) in
+      subst P (same_hauled g h same) (keeps_below_then (length m) (length m) _ _ _ (omega arith) keeps (keeps_below (length m) _ _ on));
+  mint = numbers;
+  back = begins_further g.back.items k.back.items l.back.items (let Q : List (List (Back NoOwner)) → Type 0 = λ w. Begins w k.back.items in subst Q same.1 back) (begins_same k.back.items l.back.items b);
+}
+
+pub shares_cut : (had frame rest : List (Segment NoOwner)) (us vs : List FrameUnit) (at : ℕ) → CutsShare had frame rest → vs ≡ us ++ Frame at frame ∷ [] → SharesData had rest us vs
+shares_cut had frame rest us vs at cut more = record {
+  added = Frame at frame ∷ [];
+  haul = more;
+  copies = each_append _ rest (frame ++ []) cut.rest_copies (each_append _ frame [] cut.front_copies tt);
+  heavy = cut.heavy;
+  stout = each_append _ frame [] cut.stout tt;
+}
+
+-- a refused call answers no nodes
+pub refused_totals : {E : Type 0} (m : ℕ) (xs k : List (Stake NoOwner)) (nodes : List (Segment NoOwner)) (r : Result (List (Segment NoOwner)) E) → IsErr r
+    → KeepsTotalsBelow m xs (held_by nodes ++ k) → KeepsTotalsBelow m xs (held_by (nodes ++ answered r) ++ k)
+refused_totals m xs k nodes (Ok some) err keeps = absurd (let never : false ≡ true = err in cc never)
+refused_totals m xs k nodes (Err e) err keeps = let P : List (Segment NoOwner) → Type 0 = λ w. KeepsTotalsBelow m xs (held_by w ++ k) in subst P (sym (append-nil nodes)) keeps
+
+pub if_ok : {A E : Type 0} (P Q : A → Type 0) (r : Result A E) → IfOk r P → ((a : A) → P a → Q a) → IfOk r Q
+if_ok P Q (Ok a) p f = f a p
+if_ok P Q (Err e) p f = tt
+
+-- a cut that was refused
+pub moves_refused : (m n : Numbers) (before after : List (Segment NoOwner)) (g h k : Haul) → SameHaul g h → KeepsTotalsBelow (length m) (held_by before ++ hauled h) (held_by (after ++ []) ++ hauled k)
+    → NumbersOn m n → Begins h.back.items k.back.items → Moves m n before after g k
+moves_refused m n before after g h k same keeps numbers back = record {
+  totals =
+      let P : List (Segment NoOwner) → Type 0 = λ w. KeepsTotalsBelow (length m) (held_by before ++ hauled g) (held_by w ++ hauled k) in
+      let Q : List (Stake NoOwner) → Type 0 = λ w. KeepsTotalsBelow (length m) (held_by before ++ w) (held_by (after ++ []) ++ hauled k) in
+      subst P (append-nil after) (subst Q (same_hauled g h same) keeps);
+  mint = numbers;
+  back = let R : List (List (Back NoOwner)) → Type 0 = λ w. Begins w k.back.items in subst R same.1 back;
+}

@@ -43,7 +43,7 @@ module _ {k front back : ℕ} {before frame after : List (Segment NoOwner)} (s :
       let Q : List (Segment NoOwner) → Type 0 = λ w. StopsAt (k - 0) w in
       subst Q (sym s.before_is) (let e : k - 0 < length s.node.window = omega (arith, within) in e)
 
-  splits : (m : Numbers) → 0 < k → IfSome (slice_get before 0) (λ t. k < length t.window) → SplitsAt k m m before whole after
+  pub splits : (m : Numbers) → 0 < k → IfSome (slice_get before 0) (λ t. k < length t.window) → SplitsAt k m m before whole after
   splits m some fits = record {
     run = [];
     past = before;

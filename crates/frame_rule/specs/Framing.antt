@@ -1,5 +1,6 @@
 -- What a decoder keeps, and the streams for which it stands.
-use Rattle.std.specs.Prelude.{◌≡◌, ℕ, ◌+◌, ◌^◌, ◌<◌, ◌≤◌, Bool, true, false, List, [], ◌++◌, Option, Some, None, length, take, drop, if◌then◌else◌}
+use Rattle.std.specs.Prelude.{◌≡◌, ◌⊎◌, ℕ, ◌+◌, ◌^◌, ◌<◌, ◌≤◌, Bool, true, false, List, [], ◌++◌, Option, Some, None, length, take, drop, if◌then◌else◌}
+use Rattle.std.proofs.Common.{refl, inl, inr}
 use Rattle.buffer_model.specs.Segment.{Segment, bytes_of}
 use Rattle.frame_head.specs.declared.codecs.Codec.{Codec}
 use Rattle.frame_head.specs.Heads.{FramingUnit}
@@ -40,6 +41,18 @@ module _ {S O : Type 0} (codec_of : S → Codec) (saw : S → List ℕ → Type 
     pub none : d.lost ≡ true → bytes_of d.kept ≡ []
     pub hopeless : d.lost ≡ true → IsHopeless (codec_of d.scanner) (rest (codec_of d.scanner) h)
     pub bounded : length (bytes_of d.kept) ≤ most_kept (codec_of d.scanner)
+
+  by_loss : (d : Framing S O) (h : List ℕ) → StandsFor d h → (lost : Bool) → d.lost ≡ lost
+      → (bytes_of d.kept ≡ rest (codec_of d.scanner) h)
+      ⊎ ((bytes_of d.kept ≡ []) × IsHopeless (codec_of d.scanner) (rest (codec_of d.scanner) h))
+  by_loss d h is false e = inl (is.kept e)
+  by_loss d h is true e = inr (is.none e, is.hopeless e)
+
+  -- a decoder keeps the bytes of the open unit, or none where no frame can come of them
+  pub keeps_rest : (d : Framing S O) (h : List ℕ) → StandsFor d h
+      → (bytes_of d.kept ≡ rest (codec_of d.scanner) h)
+      ⊎ ((bytes_of d.kept ≡ []) × IsHopeless (codec_of d.scanner) (rest (codec_of d.scanner) h))
+  keeps_rest d h is = by_loss d h is d.lost refl
 
   -- a decoder took the bytes `p`, which add these units
   pub record Took (old new : Framing S O) (p : List ℕ) (added : List FramingUnit) : Type 0 where

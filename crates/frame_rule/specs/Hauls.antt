@@ -1,6 +1,7 @@
 -- What a haul has of storages, and what calls put into it.
 use Rattle.std.specs.Prelude.{◌<◌, ◌≡◌, ◌⊎◌, ◌≤◌, List, [], ◌∷◌, ◌++◌, Option, Some, None, Result, Ok, Err, length}
 use Rattle.std.specs.List.{AllZip}
+use Rattle.std.specs.Vec.{vec_len, vec_capacity}
 use Rattle.storage.specs.declared.release.NoOwner.{NoOwner}
 use Rattle.storage.specs.declared.back.Back.{Back}
 use Rattle.storage.specs.Back.{GivesBack, stakes_in}
@@ -8,9 +9,11 @@ use Rattle.buffer_model.specs.Segment.{Segment, bytes_of, hold_of}
 use Rattle.buffer_model.specs.Stake.{Stake, KeepsTotals, KeepsTotalsBelow}
 use Rattle.buffer_model.specs.Minted.{Numbers, StayNumbered}
 use Rattle.iobuf_chain.specs.Accounts.{held_by}
-use Rattle.iobuf_chain.specs.Copies.{CopiesNoData, IsHeavy, IsStout, WithData}
+use Rattle.iobuf_chain.specs.Copies.{CopiesNoData, HasData, IsHeavy, IsStout, WithData}
+use Rattle.iobuf_chain.specs.Lists.{Each}
 use Rattle.frame_rule.specs.declared.haul.Haul.{Haul}
 use Rattle.frame_rule.specs.declared.unit.FrameUnit.{FrameUnit}
+use Rattle.frame_rule.specs.declared.unit.FrameUnit.TheVariants.{Frame, Fault}
 use Rattle.frame_rule.specs.Units.{nodes_in}
 
 -- what was handed back has of storages
@@ -50,11 +53,17 @@ AreReturns nodes backs = AllZip (λ s b. GivesBack (λ (n : NoOwner). n.runs) (�
 abbrev pub SameHaul : Haul → Haul → Type 0
 SameHaul old new = (new.units.items ≡ old.units.items) × (new.back.items ≡ old.back.items)
 
--- a haul before and after a dead decoder was fed a piece: what that handed back was added where there was room
+-- what a piece hands back came behind all that was handed back before
+abbrev pub AddsReturns : List (Segment NoOwner) → Haul → Haul → Type 0
+AddsReturns piece old new =
+    (backs : List (Back NoOwner)) × AreReturns piece backs × (new.back.items ≡ old.back.items ++ backs ∷ [])
+
+-- a haul before and after a dead decoder was fed a piece: what that handed back was added, or memory was refused;
+-- which it wasn't where there was room
 pub record ReturnsPiece (piece : List (Segment NoOwner)) (old new : Haul) : Type 0 where
   pub units : new.units.items ≡ old.units.items
-  pub back : (new.back.items ≡ old.back.items)
-      ⊎ ((backs : List (Back NoOwner)) × AreReturns piece backs × (new.back.items ≡ old.back.items ++ backs ∷ []))
+  pub back : AddsReturns piece old new ⊎ (new.back.items ≡ old.back.items)
+  pub room : vec_len old.back < vec_capacity old.back → AddsReturns piece old new
 
 -- no data was copied: the nodes with data that are kept, and those of the units that were added, have storages of these
 -- nodes; and they can still be cut, and be shared
@@ -64,6 +73,25 @@ pub record SharesData (had kept : List (Segment NoOwner)) (old new : List FrameU
   pub copies : CopiesNoData had (kept ++ nodes_in added)
   pub heavy : WithData IsHeavy kept
   pub stout : WithData IsStout (nodes_in added)
+
+-- if there are any nodes, they have bytes
+abbrev pub HasBytesIfAny : List (Segment NoOwner) → Type 0
+HasBytesIfAny nodes = bytes_of nodes ≡ [] → nodes ≡ []
+
+-- one node, or nodes that each have data
+abbrev pub IsTight : List (Segment NoOwner) → Type 0
+IsTight nodes = (length nodes ≡ 1) ⊎ Each HasData nodes
+
+-- a frame of such nodes, or a fault
+abbrev pub IsTightUnit : FrameUnit → Type 0
+IsTightUnit (Frame at chain) = IsTight chain
+IsTightUnit (Fault at kind) = Unit {0}
+
+-- such units were added
+pub record AddsTight (old new : List FrameUnit) : Type 0 where
+  pub added : List FrameUnit
+  pub haul : new ≡ old ++ added
+  pub tight : Each IsTightUnit added
 
 -- a mint numbered more storages, or none
 abbrev pub NumbersOn : Numbers → Numbers → Type 0
@@ -82,6 +110,18 @@ pub record CutsShare (had front rest : List (Segment NoOwner)) : Type 0 where
   pub rest_copies : CopiesNoData had rest
   pub stout : WithData IsStout front
   pub heavy : WithData IsHeavy rest
+
+-- nodes before a cut, those that were cut off, and those that stay: no data was copied, and nodes that each have data
+-- still do
+pub record CutsOff (before front rest : List (Segment NoOwner)) : Type 0 where
+  pub shares : WithData IsHeavy before → CutsShare before front rest
+  pub tight : IsTight before → IsTight front × IsTight rest
+
+-- nodes before and after bytes left them for a haul of these units: no data was copied, and nodes that each have data
+-- still do
+pub record CutsNodes (before after : List (Segment NoOwner)) (old new : List FrameUnit) : Type 0 where
+  pub shares : WithData IsHeavy before → SharesData before after old new
+  pub tight : IsTight before → IsTight after × AddsTight old new
 
 -- what nodes hand back was added to a haul, or there was no storage under them
 pub record GivesUp (nodes : List (Segment NoOwner)) (old new : Haul) : Type 0 where

@@ -1,14 +1,13 @@
 //! Parts of a chain that leave at its front: as a frame, or to be given back.
-ghost use Rattle.std.specs.Prelude.{◌≡◌, ◌+◌, ◌≤◌, ◌<◌, IsTrue, [], ◌∷◌, ◌++◌, None, IfErr, IfOk, OnOk, OnErr, length, take, drop};
+ghost use Rattle.std.specs.Prelude.{◌≡◌, ◌+◌, ◌-◌, ◌≤◌, ◌<◌, IsTrue, [], ◌∷◌, ◌++◌, None, IfErr, IfOk, OnOk, OnErr, length, take, drop};
 ghost use Rattle.buffer_model.specs.Share.{wrapped};
 ghost use Rattle.storage.specs.declared.release.NoOwner.{NoOwner};
 ghost use Rattle.buffer_model.specs.Segment.{Segment, bytes_of, whole_window};
 ghost use Rattle.buffer_model.specs.Stake.{KeepsTotalsBelow};
 ghost use Rattle.iobuf_chain.specs.Accounts.{answered, held_by};
-ghost use Rattle.iobuf_chain.specs.Copies.{IsHeavy, WithData};
 ghost use Rattle.frame_head.specs.Heads.{FrameAt};
 ghost use Rattle.frame_rule.specs.Scanning.{inner};
-ghost use Rattle.frame_rule.specs.Hauls.{CutsShare, GivesUp, Moves, NumbersOn, SameHaul, SharesData};
+ghost use Rattle.frame_rule.specs.Hauls.{Begins, CutsNodes, CutsOff, GivesUp, Moves, NumbersOn, SameHaul, hauled};
 ghost use Rattle.frame_rule.specs.Units.{Gives};
 
 use crate::haul::Haul;
@@ -30,7 +29,8 @@ fn nothing(alloc: Global) -> Frame
     }
 }
 
-// The first `k` bytes leave. Where these are all, so do all nodes, and one without data and storage stays.
+// The first `k` bytes leave. Where these are all, so do all nodes, and one without data and storage stays; and one such
+// leaves where there are none.
 fn cut_front(
     chain: &mut Frame,
     alloc: Global,
@@ -43,8 +43,11 @@ fn cut_front(
     ensures mint { NumbersOn mint.old mint.new }
     ensures totals { KeepsTotalsBelow (length mint.old)
         (held_by chain.old) (held_by (chain.new ++ answered result)) }
-    ensures shares { WithData IsHeavy chain.old → IfOk result (λ front. CutsShare chain.old front chain.new) }
+    ensures nodes { IfOk result (λ front. CutsOff chain.old front chain.new) }
 {
+    if k == 0 {
+        return Ok(nothing(alloc));
+    }
     if k == chain.length() {
         return Ok(mem::replace(chain, nothing(alloc)));
     }
@@ -66,8 +69,8 @@ pub(crate) fn drop_front(
     ensures rest { OnOk result (bytes_of chain.new ≡ drop k (bytes_of chain.old)) }
     ensures units { haul.new.units ≡ haul.old.units }
     ensures moves { Moves mint.old mint.new chain.old chain.new haul.old haul.new }
-    ensures shares { WithData IsHeavy chain.old → OnOk result
-        (SharesData chain.old chain.new haul.old.units.items haul.new.units.items) }
+    ensures nodes { OnOk result
+        (CutsNodes chain.old chain.new haul.old.units.items haul.new.units.items) }
 {
     haul.back.reserve(1)?;
     let front = cut_front(chain, alloc, k, mint)?;
@@ -93,8 +96,8 @@ pub(crate) fn give_frame(
         haul.old.units.items haul.new.units.items) }
     ensures refused { OnErr result (haul.new.units.items ≡ haul.old.units.items) }
     ensures moves { Moves mint.old mint.new chain.old chain.new haul.old haul.new }
-    ensures shares { WithData IsHeavy chain.old → OnOk result
-        (SharesData chain.old chain.new haul.old.units.items haul.new.units.items) }
+    ensures nodes { OnOk result
+        (CutsNodes chain.old chain.new haul.old.units.items haul.new.units.items) }
 {
     let _nodes = chain.elements();
     if k == 0 || k >= chain.node(0).length() {
@@ -130,17 +133,80 @@ fn give_cut(
         haul.old.units.items haul.new.units.items) }
     ensures refused { OnErr result (haul.new.units.items ≡ haul.old.units.items) }
     ensures moves { Moves mint.old mint.new chain.old chain.new haul.old haul.new }
-    ensures shares { WithData IsHeavy chain.old → OnOk result
-        (SharesData chain.old chain.new haul.old.units.items haul.new.units.items) }
+    ensures nodes { OnOk result
+        (CutsNodes chain.old chain.new haul.old.units.items haul.new.units.items) }
 {
     haul.units.reserve(1)?;
-    let mut frame = cut_front(chain, alloc, k, mint)?;
-    let (front, back) = edges;
-    frame.trim_end(back);
-    frame.trim_start(front);
+    let frame = cut_frame(chain, alloc, k, edges, haul, mint)?;
     haul.units
         .push_reserved(FrameUnit::Frame { at, chain: frame });
     Ok(())
+}
+
+// The first `k` bytes leave without the first `front` and the last `back` of them, whose nodes are given back. At want
+// of memory the first of the bytes may have left, and their nodes are given back.
+fn cut_frame(
+    chain: &mut Frame,
+    alloc: Global,
+    k: usize,
+    edges: (usize, usize),
+    haul: &mut Haul,
+    mint: &mut Mint,
+) -> Result<Frame, AllocError>
+    requires there { k ≤ length (bytes_of chain.old) }
+    requires within { edges.0 + edges.1 ≤ k }
+    ensures frame { IfOk result (λ frame. bytes_of frame ≡ inner edges.0 edges.1 (take k (bytes_of chain.old))) }
+    ensures rest { OnOk result (bytes_of chain.new ≡ drop k (bytes_of chain.old)) }
+    ensures units { haul.new.units ≡ haul.old.units }
+    ensures back { Begins haul.old.back.items haul.new.back.items }
+    ensures mint { NumbersOn mint.old mint.new }
+    ensures totals { KeepsTotalsBelow (length mint.old) (held_by chain.old ++ hauled haul.old)
+        (held_by (chain.new ++ answered result) ++ hauled haul.new) }
+    ensures nodes { IfOk result (λ frame. CutsOff chain.old frame chain.new) }
+{
+    let (front, back) = edges;
+    if front == 0 {
+        return cut_content(chain, alloc, k, back, haul, mint);
+    }
+    drop_front(chain, alloc, front, haul, mint)?;
+    cut_content(chain, alloc, k - front, back, haul, mint)
+}
+
+// The same where no first bytes are taken off.
+fn cut_content(
+    chain: &mut Frame,
+    alloc: Global,
+    k: usize,
+    back: usize,
+    haul: &mut Haul,
+    mint: &mut Mint,
+) -> Result<Frame, AllocError>
+    requires there { k ≤ length (bytes_of chain.old) }
+    requires within { back ≤ k }
+    ensures content { IfOk result (λ frame. bytes_of frame ≡ take (k - back) (bytes_of chain.old)) }
+    ensures rest { OnOk result (bytes_of chain.new ≡ drop k (bytes_of chain.old)) }
+    ensures units { haul.new.units ≡ haul.old.units }
+    ensures back { Begins haul.old.back.items haul.new.back.items }
+    ensures mint { NumbersOn mint.old mint.new }
+    ensures totals { KeepsTotalsBelow (length mint.old) (held_by chain.old ++ hauled haul.old)
+        (held_by (chain.new ++ answered result) ++ hauled haul.new) }
+    ensures nodes { IfOk result (λ frame. CutsOff chain.old frame chain.new) }
+{
+    if back == 0 {
+        return cut_front(chain, alloc, k, mint);
+    }
+    haul.back.reserve(1)?;
+    let content = cut_front(chain, alloc, k - back, mint)?;
+    match cut_front(chain, alloc, back, mint) {
+        Ok(ending) => {
+            haul.back.push_reserved(ending.give_back());
+            Ok(content)
+        }
+        Err(e) => {
+            haul.back.push_reserved(content.give_back());
+            Err(e)
+        }
+    }
 }
 
 /// Gives back a chain whose bytes are used up. At want of memory it is handed back. A chain that has no storage hands

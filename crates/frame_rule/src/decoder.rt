@@ -1,12 +1,16 @@
-ghost use Rattle.std.specs.Prelude.{◌≡◌, ◌↔◌, ℕ, ◌+◌, ◌<◌, ◌≤◌, ◌^◌, true, false, List, [], ◌++◌, None, length, IsTrue, IsNone, IsErrOf, OnOk};
+ghost use Rattle.std.specs.Prelude.{◌≡◌, ◌↔◌, ◌⊎◌, ℕ, ◌+◌, ◌<◌, ◌≤◌, ◌^◌, true, false, List, [], ◌++◌, None, length, IsTrue, IsNone, IsErrOf, OnOk};
 ghost use Rattle.storage.specs.Back.{stakes_in};
 ghost use Rattle.std.specs.Option.{IfSome};
 ghost use Rattle.buffer_model.specs.Segment.{bytes_of};
 ghost use Rattle.buffer_model.specs.Stake.{KeepsTotals, KeepsTotalsBelow};
 ghost use Rattle.iobuf_chain.specs.Accounts.{held_by};
-ghost use Rattle.iobuf_chain.specs.Copies.{IsHeavy, WithData};
+ghost use Rattle.iobuf_chain.specs.Copies.{HasData, IsHeavy, WithData};
+ghost use Rattle.iobuf_chain.specs.Lists.{Each};
 ghost use Rattle.frame_head.specs.Codecs.{fault_of, most_kept};
-ghost use Rattle.frame_rule.specs.Hauls.{AreReturns, Begins, NumbersOn, ReturnsPiece, SameHaul, SharesData, hauled};
+ghost use Rattle.frame_head.specs.Units.{rest};
+ghost use Rattle.frame_rule.specs.Hauls.{AddsTight, AreReturns, Begins, HasBytesIfAny, NumbersOn, ReturnsPiece, SameHaul};
+ghost use Rattle.frame_rule.specs.Hauls.{SharesData, hauled};
+ghost use Rattle.frame_rule.specs.Scanning.{IsHopeless};
 ghost use Rattle.frame_rule.specs.Decoding.{Decoding, Ended, Fed, TakesEnd, TakesIn, TakesPartly};
 
 use crate::haul::Haul;
@@ -57,13 +61,16 @@ pub trait Decoder: Send + Drop {
         ensures dead { IsErrOf result FeedFault.Dead ↔ IsTrue (state self.old).dead }
         ensures returned { IsErrOf result FeedFault.Dead → ReturnsPiece piece.entry haul.old haul.new }
         ensures back { Begins haul.old.back.items haul.new.back.items }
-        ensures used { OnOk result (bytes_of (state self.new).kept ≡ [] → (state self.new).kept ≡ []) }
+        ensures used { OnOk result (HasBytesIfAny (state self.new).kept) }
         ensures bounded { OnOk result (length (bytes_of (state self.new).kept) ≤ most_kept (state self.new).codec) }
         ensures totals { (state self.old).dead ≡ false → KeepsTotalsBelow (length mint.old)
             (held_by ((state self.old).kept ++ piece.entry) ++ hauled haul.old)
             (held_by (state self.new).kept ++ hauled haul.new) }
         ensures copies { WithData IsHeavy ((state self.old).kept ++ piece.entry) → OnOk result (SharesData
             ((state self.old).kept ++ piece.entry) (state self.new).kept haul.old.units.items haul.new.units.items) }
+        ensures tight { Each HasData ((state self.old).kept ++ piece.entry) → OnOk result
+            (Each HasData (state self.new).kept × AddsTight haul.old.units.items haul.new.units.items) }
+        ensures empty { bytes_of piece.entry ≡ [] → OnOk result ((state self.new).kept ≡ (state self.old).kept) }
         ensures mint { NumbersOn mint.old mint.new };
 
     /// Ends the stream, and adds what its end adds to the haul. The decoder is dead from then on, and keeps nothing,
@@ -80,6 +87,8 @@ pub trait Decoder: Send + Drop {
             (held_by (state self.old).kept ++ hauled haul.old) (held_by (state self.new).kept ++ hauled haul.new) }
         ensures copies { WithData IsHeavy (state self.old).kept → OnOk result (SharesData
             (state self.old).kept (state self.new).kept haul.old.units.items haul.new.units.items) }
+        ensures tight { Each HasData (state self.old).kept → OnOk result
+            (AddsTight haul.old.units.items haul.new.units.items) }
         ensures mint { NumbersOn mint.old mint.new };
 
     /// Gives back what the decoder keeps, which is dead from then on. `None` exactly where it keeps nothing. No memory.
@@ -96,4 +105,9 @@ pub trait Decoder: Send + Drop {
     /// It was fed as many bytes as it stands for, is alive, and its codec is one that `check` passes.
     ghost counted: { (d : Self) (h : List ℕ) → stands d h
         → ((state d).fed ≡ length h) × ((state d).dead ≡ false) × (fault_of (state d).codec ≡ None) };
+
+    /// It keeps the bytes of the open unit, or none where no frame can come of them.
+    ghost keeps: { (d : Self) (h : List ℕ) → stands d h
+        → (bytes_of (state d).kept ≡ rest (state d).codec h)
+        ⊎ ((bytes_of (state d).kept ≡ []) × IsHopeless (state d).codec (rest (state d).codec h)) };
 }

@@ -3,10 +3,11 @@ ghost use Rattle.std.specs.Prelude.{◌≡◌, ◌+◌, ◌≤◌, ◌<◌, ◌^
 ghost use Rattle.buffer_model.specs.Segment.{bytes_of};
 ghost use Rattle.buffer_model.specs.Stake.{KeepsTotals, KeepsTotalsBelow};
 ghost use Rattle.iobuf_chain.specs.Accounts.{held_by};
-ghost use Rattle.iobuf_chain.specs.Copies.{IsHeavy, WithData};
+ghost use Rattle.iobuf_chain.specs.Copies.{HasData, IsHeavy, WithData};
+ghost use Rattle.iobuf_chain.specs.Lists.{Each};
 ghost use Rattle.frame_rule.specs.Decoding.{TakesEnd};
 ghost use Rattle.frame_rule.specs.Framing.{FitsBehind, Stands, StandsFor, StopsAt, TakesAll, framing};
-ghost use Rattle.frame_rule.specs.Hauls.{Begins, NumbersOn, SameHaul, Settles, SharesData};
+ghost use Rattle.frame_rule.specs.Hauls.{AddsTight, Begins, HasBytesIfAny, NumbersOn, SameHaul, Settles, SharesData};
 ghost use Rattle.frame_rule.specs.Hauls.{all_kept, hauled, nodes_if, refused_in};
 ghost use Rattle.frame_rule.specs.Units.{Gives};
 
@@ -31,10 +32,11 @@ impl<S: Scanner> Progress<S> {
         mint: &mut Mint,
     ) -> Result<(), Option<Frame>>
         requires stands { Stands S.codec_of S.saw self.old (nodes_if kept.old) }
+        requires data { HasBytesIfAny (nodes_if kept.old) }
         requires room { self.old.fed + length (bytes_of piece) < 2 ^ 62 }
         ensures took { OnOk result (TakesAll S.codec_of S.saw self.old self.new (nodes_if kept.old) (nodes_if kept.new)
             (bytes_of piece.entry) haul.old.units.items haul.new.units.items) }
-        ensures used { OnOk result (bytes_of (nodes_if kept.new) ≡ [] → nodes_if kept.new ≡ []) }
+        ensures used { OnOk result (HasBytesIfAny (nodes_if kept.new)) }
         ensures stops { OnErr result (StopsAt S.codec_of S.saw self.old self.new (nodes_if kept.old)
             (bytes_of piece.entry) haul.old.units.items haul.new.units.items) }
         ensures refused { FitsBehind (nodes_if kept.new) (refused_in result) }
@@ -46,7 +48,16 @@ impl<S: Scanner> Progress<S> {
         ensures shares { WithData IsHeavy (nodes_if kept.old ++ piece.entry) → OnOk result
             (SharesData (nodes_if kept.old ++ piece.entry) (nodes_if kept.new)
             haul.old.units.items haul.new.units.items) }
+        ensures tight { Each HasData (nodes_if kept.old ++ piece.entry) → OnOk result
+            (Each HasData (nodes_if kept.new) × AddsTight haul.old.units.items haul.new.units.items) }
+        ensures empty { bytes_of piece.entry ≡ [] → OnOk result (nodes_if kept.new ≡ nodes_if kept.old) }
     {
+        if piece.length() == 0 {
+            let Err(piece) = give_back(piece, haul) else {
+                return Ok(());
+            };
+            return Err(Some(piece));
+        }
         let (mut chain, first) = match take_kept(kept, piece) {
             Ok(joined) => joined,
             Err(piece) => return Err(Some(piece)),
@@ -79,6 +90,8 @@ impl<S: Scanner> Progress<S> {
         ensures back { Begins haul.old.back.items haul.new.back.items }
         ensures shares { WithData IsHeavy (nodes_if kept.old) → OnOk result
             (SharesData (nodes_if kept.old) [] haul.old.units.items haul.new.units.items) }
+        ensures tight { Each HasData (nodes_if kept.old) → OnOk result
+            (AddsTight haul.old.units.items haul.new.units.items) }
     {
         if self.unread == 0 {
             return give_up(kept, haul);

@@ -1,7 +1,10 @@
-ghost use Rattle.std.specs.Prelude.{◌≡◌, ℕ, ◌+◌, ◌<◌, ◌^◌, List, ◌++◌, true, flat_map, length, OnOk};
+ghost use Rattle.std.specs.Prelude.{◌≡◌, ◌↔◌, ℕ, ◌+◌, ◌<◌, ◌^◌, List, [], ◌++◌, true, flat_map, length, IsErrOf, IsTrue, OnOk};
 ghost use Rattle.buffer_model.specs.Segment.{bytes_of};
 ghost use Rattle.frame_head.specs.Units.{units, ended};
-ghost use Rattle.frame_rule.specs.Units.{Grew};
+ghost use Rattle.buffer_model.specs.Stake.{KeepsTotalsBelow};
+ghost use Rattle.iobuf_chain.specs.Accounts.{held_by};
+ghost use Rattle.frame_rule.specs.Hauls.{Begins, NumbersOn, hauled};
+ghost use Rattle.frame_rule.specs.Units.{Grew, GrewPartly};
 
 use crate::decoder::{Decoder, FeedFault};
 use crate::haul::Haul;
@@ -12,7 +15,8 @@ use std::collections::VecDeque;
 
 /// Feeds pieces of a stream in order, and ends it. However the stream is cut, exactly its units are added to the haul.
 ///
-/// Linear in the bytes and nodes. Pieces that come behind a refusal are dropped.
+/// Linear in the bytes and nodes. After `NoMemory` the first of the units were added, and the pieces behind the one that
+/// was refused are dropped. `Dead` comes exactly where the decoder was dead before.
 pub fn feed_all<D: Decoder>(
     alloc: Global,
     decoder: &mut D,
@@ -21,10 +25,24 @@ pub fn feed_all<D: Decoder>(
     mint: &mut Mint,
 ) -> Result<(), FeedFault>
     requires room { (D.state decoder.old).fed + length (flat_map (λ p. bytes_of p) pieces.items) < 2 ^ 62 }
+    ensures dead { IsErrOf result FeedFault.Dead ↔ IsTrue (D.state decoder.old).dead }
+    ensures state { OnOk result (D.state decoder.new ≡ record (D.state decoder.old) {
+      fed = (D.state decoder.old).fed + length (flat_map (λ p. bytes_of p) pieces.entry.items);
+      kept = [];
+      dead = true;
+    }) }
     ensures units { OnOk result ((h : List ℕ) → D.stands decoder.old h → Grew (units (D.state decoder.old).codec h)
         (ended (D.state decoder.old).codec (h ++ flat_map (λ p. bytes_of p) pieces.entry.items))
         haul.old.units.items haul.new.units.items) }
-    ensures dead { OnOk result ((D.state decoder.new).dead ≡ true) }
+    ensures part { IsErrOf result FeedFault.NoMemory → (h : List ℕ) → D.stands decoder.old h
+        → GrewPartly (units (D.state decoder.old).codec h)
+        (ended (D.state decoder.old).codec (h ++ flat_map (λ p. bytes_of p) pieces.entry.items))
+        haul.old.units.items haul.new.units.items }
+    ensures back { Begins haul.old.back.items haul.new.back.items }
+    ensures totals { OnOk result (KeepsTotalsBelow (length mint.old)
+        (held_by ((D.state decoder.old).kept ++ flat_map (λ p. p) pieces.entry.items) ++ hauled haul.old)
+        (hauled haul.new)) }
+    ensures mint { NumbersOn mint.old mint.new }
 {
     'pieces: while let Some(piece) = pieces.pop_front() {
         decoder.feed(alloc, piece, haul, mint)?;

@@ -36,14 +36,15 @@ impl<S: Scanner> Model for Framer<S> {
     ghost use Rattle.std.specs.Prelude.{◌≡◌, false, None};
     ghost use Rattle.storage.specs.declared.release.NoOwner.{NoOwner};
     ghost use Rattle.frame_rule.specs.Framing.{FitsBehind, Framing, Stands, framing_of};
-    ghost use Rattle.frame_rule.specs.Hauls.{all_kept, nodes_if};
+    ghost use Rattle.frame_rule.specs.Hauls.{HasBytesIfAny, all_kept, nodes_if};
 
     ghost Value = { Framing S NoOwner };
 
     ghost view = { λ d. framing_of S.codec_of S.saw d.progress (all_kept d.kept d.refused) d.dead };
 
     ghost invariant = { λ d. (d.dead ≡ false → (d.refused ≡ None)
-        × Stands S.codec_of S.saw d.progress (nodes_if d.kept)) × FitsBehind (nodes_if d.kept) d.refused };
+        × Stands S.codec_of S.saw d.progress (nodes_if d.kept) × HasBytesIfAny (nodes_if d.kept))
+        × FitsBehind (nodes_if d.kept) d.refused };
 }
 
 impl<S: Scanner> Framer<S> {
@@ -70,7 +71,7 @@ impl<S: Scanner> Framer<S> {
 }
 
 impl<S: Scanner + Send> Decoder for Framer<S> {
-    ghost use Rattle.frame_rule.specs.Framing.{StandsFor, decoding_of};
+    ghost use Rattle.frame_rule.specs.Framing.{StandsFor, decoding_of, keeps_rest};
 
     ghost state = { λ d. decoding_of S.codec_of d };
 
@@ -124,6 +125,8 @@ impl<S: Scanner + Send> Decoder for Framer<S> {
     }
 
     ghost counted = { λ d h st. (st.fed, st.alive, S.checked d.scanner _ st.seen) };
+
+    ghost keeps = { λ d h st. keeps_rest S.codec_of S.saw d h st };
 }
 
 // How many bytes a chain has that may be there.

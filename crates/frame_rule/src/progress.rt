@@ -2,11 +2,10 @@
 ghost use Rattle.std.specs.Prelude.{◌≡◌, ◌+◌, ◌-◌, ◌≤◌, ◌<◌, ◌^◌, true, false, min, IfOk, OnOk, OnErr, length, take, drop, slice_get};
 ghost use Rattle.std.specs.Option.{ForSome};
 ghost use Rattle.buffer_model.specs.Segment.{bytes_of};
-ghost use Rattle.iobuf_chain.specs.Copies.{IsHeavy, WithData};
 ghost use Rattle.frame_head.specs.Heads.{FrameAt, FaultAt};
 ghost use Rattle.frame_rule.specs.Scanning.{inner};
 ghost use Rattle.frame_rule.specs.Framing.{Advances, Passes, Stands, Stops, kept_size};
-ghost use Rattle.frame_rule.specs.Hauls.{Moves, SharesData};
+ghost use Rattle.frame_rule.specs.Hauls.{CutsNodes, Moves};
 ghost use Rattle.frame_rule.specs.Units.{Gives};
 
 use crate::cuts::{drop_front, give_frame};
@@ -47,8 +46,8 @@ impl<S: Scanner> Progress<S> {
         ensures stops { OnErr result (Stops S.codec_of S.saw self.old self.new first chain.old
             haul.old.units.items haul.new.units.items) }
         ensures moves { Moves mint.old mint.new chain.old chain.new haul.old haul.new }
-        ensures shares { WithData IsHeavy chain.old → OnOk result
-            (SharesData chain.old chain.new haul.old.units.items haul.new.units.items) }
+        ensures nodes { OnOk result
+            (CutsNodes chain.old chain.new haul.old.units.items haul.new.units.items) }
     {
         let mut i = with_data(chain, first);
         'nodes: while i < chain.elements() {
@@ -77,8 +76,8 @@ impl<S: Scanner> Progress<S> {
         ensures refused { OnErr result (haul.new.units.items ≡ haul.old.units.items) }
         ensures codec { S.codec_of self.new.scanner ≡ S.codec_of self.old.scanner }
         ensures moves { Moves mint.old mint.new chain.old chain.new haul.old haul.new }
-        ensures shares { WithData IsHeavy chain.old → OnOk result
-            (SharesData chain.old chain.new haul.old.units.items haul.new.units.items) }
+        ensures nodes { OnOk result
+            (CutsNodes chain.old chain.new haul.old.units.items haul.new.units.items) }
     {
         let bytes = chain.node(i).bytes();
         let len = bytes.len();
@@ -137,8 +136,8 @@ impl<S: Scanner> Progress<S> {
         ensures stays { OnErr result (self.new ≡ self.old) }
         ensures units { haul.new.units ≡ haul.old.units }
         ensures moves { Moves mint.old mint.new chain.old chain.new haul.old haul.new }
-        ensures shares { WithData IsHeavy chain.old → OnOk result
-            (SharesData chain.old chain.new haul.old.units.items haul.new.units.items) }
+        ensures nodes { OnOk result
+            (CutsNodes chain.old chain.new haul.old.units.items haul.new.units.items) }
     {
         let _all = chain.length();
         drop_front(chain, alloc, self.kept() + n, haul, mint)?;
@@ -164,8 +163,8 @@ impl<S: Scanner> Progress<S> {
         ensures stays { OnErr result (self.new ≡ self.old) }
         ensures units { haul.new.units ≡ haul.old.units }
         ensures moves { Moves mint.old mint.new chain.old chain.new haul.old haul.new }
-        ensures shares { WithData IsHeavy chain.old → OnOk result
-            (SharesData chain.old chain.new haul.old.units.items haul.new.units.items) }
+        ensures nodes { OnOk result
+            (CutsNodes chain.old chain.new haul.old.units.items haul.new.units.items) }
     {
         self.leave(alloc, chain, n, haul, mint)?;
         self.unread += n as u64;
@@ -195,8 +194,8 @@ impl<S: Scanner> Progress<S> {
         ensures stays { OnErr result (self.new ≡ self.old) }
         ensures refused { OnErr result (haul.new.units.items ≡ haul.old.units.items) }
         ensures moves { Moves mint.old mint.new chain.old chain.new haul.old haul.new }
-        ensures shares { WithData IsHeavy chain.old → OnOk result
-            (SharesData chain.old chain.new haul.old.units.items haul.new.units.items) }
+        ensures nodes { OnOk result
+            (CutsNodes chain.old chain.new haul.old.units.items haul.new.units.items) }
     {
         let at = self.fed - self.unread;
         let size = self.unread as usize + used;
@@ -227,8 +226,8 @@ impl<S: Scanner> Progress<S> {
         ensures stays { OnErr result (self.new ≡ self.old) }
         ensures refused { OnErr result (haul.new.units.items ≡ haul.old.units.items) }
         ensures moves { Moves mint.old mint.new chain.old chain.new haul.old haul.new }
-        ensures shares { WithData IsHeavy chain.old → OnOk result
-            (SharesData chain.old chain.new haul.old.units.items haul.new.units.items) }
+        ensures nodes { OnOk result
+            (CutsNodes chain.old chain.new haul.old.units.items haul.new.units.items) }
     {
         let at = self.fed - self.unread;
         haul.units.reserve(1)?;

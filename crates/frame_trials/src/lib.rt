@@ -8,6 +8,8 @@ mod floods;
 #[cfg(test)]
 mod lives;
 #[cfg(test)]
+mod names;
+#[cfg(test)]
 mod rig;
 #[cfg(test)]
 mod storages;

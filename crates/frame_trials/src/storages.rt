@@ -1,10 +1,11 @@
 ghost use Rattle.std.specs.Prelude.{◌≡◌, OnOk};
 
-use crate::codecs::{BYTE, Field, by_field};
+use crate::codecs::{BYTE, Field, by_field, lines};
 use crate::rig::Rig;
 use any_scanner::AnyScanner;
-use frame_head::check;
+use frame_head::{LineEnd, check};
 use frame_length::LengthScanner;
+use frame_line::LineScanner;
 use frame_rule::{Decoder, FrameUnit, Framer};
 use iobuf_chain::{Chain, Frame};
 use iobuf_node::IoBuf;
@@ -56,15 +57,15 @@ fn weight_of(unit: &FrameUnit, number: Option<u64>) -> Option<u64> {
     Some(chain.node(0).weight())
 }
 
-// Each frame of a block is one node on the block's storage. Each but the last has a part of the
-// weight, and the last all that is left, since it takes the block's own node.
+// Each frame of a block is one node on the block's storage. Each but the last has a part of the weight, and so has the
+// field before the last, which is handed back. The last has all that is left, since it takes the block's own node.
 #[test]
 fn a_frame_in_one_block_is_one_node(rt: HostRuntime) -> Result<(), Fail> {
     let alloc = rt.alloc();
     let rows: [(&[u8], &[u64]); 3] = [
-        (b"\x03abc\x01x\x02yz", &[PART, PART, ALL - 2 * PART]),
-        (b"\x03abc", &[ALL]),
-        (b"\x00\x00", &[PART, ALL - PART]),
+        (b"\x03abc\x01x\x02yz", &[PART, PART, ALL - 3 * PART]),
+        (b"\x03abc", &[ALL - PART]),
+        (b"\x00\x00\x01x", &[PART, PART, ALL - 3 * PART]),
     ];
     for (bytes, weights) in rows {
         let codec = by_field(BYTE);
@@ -77,6 +78,52 @@ fn a_frame_in_one_block_is_one_node(rt: HostRuntime) -> Result<(), Fail> {
         assert_eq!(rt; rig.haul.units.len(), weights.len());
         for (unit, weight) in rig.haul.units.iter().zip(weights) {
             assert_eq!(rt; weight_of(unit, number), Some(*weight));
+        }
+    }
+    Ok(())
+}
+
+// Frames whose stripped bytes lie in nodes of their own are one node all the same. One without bytes has no storage.
+#[test]
+fn emptied_nodes_leave_a_frame(rt: HostRuntime) -> Result<(), Fail> {
+    let alloc = rt.alloc();
+    let rows: [(&[&[u8]], &[usize]); 5] = [
+        (&[b"\x03", b"abc"], &[1]),
+        (&[b"\x03", b"a", b"bc\x01", b"d"], &[2, 1]),
+        (&[b"\x00"], &[1]),
+        (&[b"\x00\x00", b"\x01", b"a"], &[1, 1, 1]),
+        (&[b"\x02a", b"b\x02", b"cd\x00"], &[2, 1, 1]),
+    ];
+    for (pieces, nodes) in rows {
+        let codec = by_field(BYTE);
+        assert!(rt; check(&codec).is_ok());
+        let mut rig = Rig::new(alloc, Framer::<LengthScanner>::new(codec));
+        feed_lent(alloc, &mut rig, pieces)?;
+        have_nodes(&rt, &rig.haul.units, nodes)?;
+    }
+    let endings: [(&[&[u8]], &[usize]); 4] = [
+        (&[b"ab\r", b"\n"], &[1]),
+        (&[b"ab", b"\r", b"\n"], &[1]),
+        (&[b"a", b"b\r", b"\nc", b"\n"], &[2, 1]),
+        (&[b"\r", b"\n", b"\n"], &[1, 1]),
+    ];
+    for (pieces, nodes) in endings {
+        let codec = lines(LineEnd::Any, true, 9);
+        assert!(rt; check(&codec).is_ok());
+        let mut rig = Rig::new(alloc, Framer::<LineScanner>::new(codec));
+        feed_lent(alloc, &mut rig, pieces)?;
+        have_nodes(&rt, &rig.haul.units, nodes)?;
+    }
+    Ok(())
+}
+
+// How many nodes each of these frames has.
+fn have_nodes(rt: &impl Abort, units: &[FrameUnit], nodes: &[usize]) -> Result<(), Fail> {
+    assert_eq!(rt; units.len(), nodes.len());
+    for (unit, count) in units.iter().zip(nodes) {
+        match unit {
+            FrameUnit::Frame { chain, .. } => assert_eq!(rt; chain.elements(), *count),
+            FrameUnit::Fault { .. } => return Err(Fail::from("a fault")),
         }
     }
     Ok(())

@@ -1,6 +1,8 @@
-use Rattle.std.proofs.Common.{◌∙◌, ℕ, List, [], Bor, take, ap, arith, refl, flat_map, slice_index_or}
+use Rattle.std.proofs.Common.{rules, ◌∙◌, ℕ, List, [], Bor, take, ap, arith, refl, flat_map, slice_index_or}
 use Rattle.std.proofs.lemmas.List.{take_all}
 use Rattle.std.proofs.lemmas.List.Folds.{length-flat_map-take}
+use Rattle.std.specs.Prelude.{IsErrOf}
+use Rattle.frame_rule.specs.declared.decoder.FeedFault.TheVariants.{Dead}
 use Rattle.frame_rule.specs.Units.{units_of}
 use Rattle.examples.proofs.Pieces.{joined_more, fed_on, ended_on}
 use Rattle.examples.proofs.decode.Goals as goal
@@ -28,9 +30,26 @@ pieces-preserved g c =
     c.pieces.invariant.codec c.pieces.invariant.stands c.pieces.invariant.units c.in_ok-feed_copy.ensures.units in
     record { codec = c.in_ok-feed_copy.ensures.codec ∙ c.pieces.invariant.codec; stands = fed.0; units = fed.1 }
 
-pub returns : goal.returns
-returns g c =
+pub returns-clause-units : goal.returns-clause-units
+returns-clause-units g c =
     let xs = c.args.pieces.now in
     let before = flat_map (λ (p : Bor (List ℕ)). p.now) (take c.pieces.bytes-index xs) in
     let all = ap (λ w. flat_map (λ (p : Bor (List ℕ)). p.now) w) (take_all c.pieces.bytes-index xs (omega (arith, c.pieces-test.false))) in
-    record { units = ended_on (g.D.Decoder.stands c.pieces.decoder) _ _ before _ c.pieces.haul.units.items c.end.new.haul.units.items all c.pieces.invariant.codec c.pieces.invariant.stands c.pieces.invariant.units c.in_ok-end.ensures.units }
+    ended_on (g.D.Decoder.stands c.pieces.decoder) _ _ before _ c.pieces.haul.units.items c.end.new.haul.units.items all c.pieces.invariant.codec c.pieces.invariant.stands c.pieces.invariant.units c.in_ok-end.ensures.units
+
+-- what stands for some bytes is alive
+pub returns-in_err-feed_copy-clause-alive : goal.returns-in_err-feed_copy-clause-alive
+returns-in_err-feed_copy-clause-alive g c is =
+    let laws = g.met.D.Decoder g.world.𝓛 g.world.𝓜 g.world.𝓡 ((λ s x. x), (λ x. x), (λ x. x), λ x. x) in
+    let was : IsErrOf c.feed_copy.result Dead = search rules in
+    let fed = laws.counted c.pieces.decoder _ c.pieces.invariant.stands in
+    let dead = c.feed_copy.ensures.dead was in
+    absurd (cc (dead, fed.1))
+
+pub returns-in_err-end-clause-alive : goal.returns-in_err-end-clause-alive
+returns-in_err-end-clause-alive g c is =
+    let laws = g.met.D.Decoder g.world.𝓛 g.world.𝓜 g.world.𝓡 ((λ s x. x), (λ x. x), (λ x. x), λ x. x) in
+    let was : IsErrOf c.end.result Dead = search rules in
+    let fed = laws.counted c.pieces.decoder _ c.pieces.invariant.stands in
+    let dead = c.end.ensures.dead.0 was in
+    absurd (cc (dead, fed.1))

@@ -1,12 +1,19 @@
-use Rattle.std.proofs.Common.{rules, ◌≡◌, ℕ, List, [], ◌++◌, flat_map, length, ap, sym, subst, ◌∙◌, append_assoc, append-nil, arith, length-append}
+use Rattle.std.proofs.Common.{rules, ◌≡◌, ℕ, false, List, [], ◌++◌, flat_map, length, ap, sym, subst, ◌∙◌, append_assoc, append-nil, arith, length-append}
 use Rattle.storage.specs.declared.release.NoOwner.{NoOwner}
 use Rattle.buffer_model.specs.Segment.{Segment, bytes_of}
 use Rattle.frame_head.specs.declared.codecs.Codec.{Codec}
 use Rattle.frame_head.specs.Units.{units, ended}
 use Rattle.frame_rule.specs.Decoding.{Decoding}
-use Rattle.frame_rule.specs.Units.{Grew}
-use Rattle.frame_rule.proofs.Gathered.{grew_further}
+use Rattle.frame_rule.specs.Units.{Grew, GrewPartly}
+use Rattle.frame_rule.specs.declared.decoder.FeedFault.TheVariants.{NoMemory}
+use Rattle.std.specs.Prelude.{IsErrOf}
+use Rattle.buffer_model.specs.Stake.{KeepsTotalsBelow}
+use Rattle.buffer_model.proofs.Totals.{keeps_below_then}
+use Rattle.iobuf_chain.specs.Accounts.{held_by}
+use Rattle.frame_rule.specs.Hauls.{hauled}
+use Rattle.frame_rule.proofs.Gathered.{aside, ended_longer, ended_ok, grew_further, partly_further, partly_longer}
 use Rattle.frame_rule.proofs.Intakes.{on_ok}
+use Rattle.frame_rule.proofs.Moving.{begins_further, numbers_further}
 use Rattle.frame_rule.proofs.feeds.feed_all.Goals as goal
 
 pub pieces-preserved : goal.pieces-preserved
@@ -19,6 +26,7 @@ pieces-preserved g c =
     let same : (g.D.Decoder.state c.pieces.decoder).codec ≡ (g.D.Decoder.state c.args.decoder.now).codec = c.pieces.invariant.codec in
     record {
       codec = ap (λ (d : Decoding). d.codec) c.in_ok-feed.ensures.state.1 ∙ same;
+      dead = ap (λ (d : Decoding). d.dead) c.in_ok-feed.ensures.state.1 ∙ c.pieces.invariant.dead;
       fed = let e = ap length parts in let l = length-append p rest in let i = c.pieces.invariant.fed in omega (arith, e, l, i, fed);
       stands = λ h st.
           let before = c.pieces.invariant.stands h st in
@@ -31,6 +39,18 @@ pieces-preserved g c =
             subst P assoc (c.in_ok-feed.ensures.units.stands (h ++ before.0) before.2),
             grew_further _ _ _ _ _ _ before.3 (subst Q assoc (subst C same (c.in_ok-feed.ensures.units.grew (h ++ before.0) before.2))),
           );
+      back = begins_further _ _ _ c.pieces.invariant.back c.in_ok-feed.ensures.back;
+      totals = λ alive.
+          let nodes : List (List (Segment NoOwner)) → List (Segment NoOwner) = λ ps. flat_map (λ q. q) ps in
+          let kept : List (Segment NoOwner) = (g.D.Decoder.state c.pieces.decoder).kept in
+          let apart : kept ++ flat_map (λ q. q) c.pieces.pieces.items ≡ (kept ++ c.in-Some.piece) ++ flat_map (λ q. q) c.pop_front.new.self.items =
+          ap (λ w. kept ++ w) (ap nodes c.in-Some.ensures.items) ∙ sym (append_assoc kept c.in-Some.piece (flat_map (λ q. q) c.pop_front.new.self.items)) in
+          let P : List (Segment NoOwner) → Type 0 = λ w. KeepsTotalsBelow (length c.args.mint.now)
+          (held_by ((g.D.Decoder.state c.args.decoder.now).kept ++ flat_map (λ q. q) c.args.pieces.items) ++ hauled c.args.haul.now) (held_by w ++ hauled c.pieces.haul) in
+          keeps_below_then (length c.args.mint.now) (length c.pieces.mint) _ _ _ c.pieces.invariant.mint.1 (subst P apart (c.pieces.invariant.totals alive))
+          (aside (length c.pieces.mint) (kept ++ c.in-Some.piece) (g.D.Decoder.state c.feed.new.self).kept (flat_map (λ q. q) c.pop_front.new.self.items) (hauled c.pieces.haul) (hauled c.feed.new.haul)
+          (c.in_ok-feed.ensures.totals (c.pieces.invariant.dead ∙ alive)));
+      mint = numbers_further _ _ _ c.pieces.invariant.mint c.in_ok-feed.ensures.mint;
     }
 
 pub returns-clause-units : goal.returns-clause-units
@@ -43,3 +63,34 @@ returns-clause-units g c =
     let C : Codec → Type 0 = λ k. Grew (units k (h ++ before.0)) (ended k (h ++ before.0)) c.pieces.haul.units.items c.end.new.haul.units.items in
     let A : List ℕ → Type 0 = λ w. Grew (units (g.D.Decoder.state c.args.decoder.now).codec h) (ended (g.D.Decoder.state c.args.decoder.now).codec (h ++ w)) c.args.haul.now.units.items c.end.new.haul.units.items in
     subst A all (grew_further _ _ _ _ _ _ before.3 (subst C c.pieces.invariant.codec (ends (h ++ before.0) before.2))))
+
+pub returns-in_err-feed-clause-part : goal.returns-in_err-feed-clause-part
+returns-in_err-feed-clause-part g c is h st =
+    let was : IsErrOf c.feed.result NoMemory = search rules in
+    let codec : Codec = (g.D.Decoder.state c.args.decoder.now).codec in
+    let before = c.pieces.invariant.stands h st in
+    let p : List ℕ = bytes_of c.in-Some.piece in
+    let rest : List ℕ = flat_map (λ q. bytes_of q) c.pop_front.new.self.items in
+    let bytes : List (List (Segment NoOwner)) → List ℕ = λ ps. flat_map (λ q. bytes_of q) ps in
+    let parts : flat_map (λ q. bytes_of q) c.pieces.pieces.items ≡ p ++ rest = ap bytes c.in-Some.ensures.items in
+    let C : Codec → Type 0 = λ k. GrewPartly (units k (h ++ before.0)) (units k ((h ++ before.0) ++ p)) c.pieces.haul.units.items c.feed.new.haul.units.items in
+    let laws = g.met.D.Decoder g.world.𝓛 g.world.𝓜 g.world.𝓡 ((λ s x. x), (λ x. x), (λ x. x), λ x. x) in
+    let more = ended_longer codec (laws.counted c.args.decoder.now h st).2 ((h ++ before.0) ++ p) rest in
+    let all : ((h ++ before.0) ++ p) ++ rest ≡ h ++ flat_map (λ q. bytes_of q) c.args.pieces.items =
+    append_assoc (h ++ before.0) p rest ∙ append_assoc h before.0 (p ++ rest) ∙ ap (λ w. h ++ (before.0 ++ w)) (sym parts) ∙ ap (λ w. h ++ w) before.1 in
+    partly_longer _ _ _ more.0 _ _ (partly_further _ _ _ _ _ _ before.3 (subst C c.pieces.invariant.codec (c.feed.ensures.part was (h ++ before.0) before.2)))
+    (ap (λ w. ended codec w) (sym all) ∙ more.1)
+
+pub returns-clause-totals : goal.returns-clause-totals
+returns-clause-totals g c =
+    on_ok c.end.result (ended_ok _ _ c.end.result c.end.ensures.state) (λ state.
+    let alive : (g.D.Decoder.state c.args.decoder.now).dead ≡ false = sym c.pieces.invariant.dead ∙ state.0 in
+    let none : c.pieces.pieces.items ≡ [] = search rules in
+    let nodes : List (List (Segment NoOwner)) → List (Segment NoOwner) = λ ps. flat_map (λ q. q) ps in
+    let kept : List (Segment NoOwner) = (g.D.Decoder.state c.pieces.decoder).kept in
+    let rest : kept ++ flat_map (λ q. q) c.pieces.pieces.items ≡ kept = ap (λ ps. kept ++ flat_map (λ q. q) ps) none ∙ append-nil kept in
+    let P : List (Segment NoOwner) → Type 0 = λ w. KeepsTotalsBelow (length c.args.mint.now)
+    (held_by ((g.D.Decoder.state c.args.decoder.now).kept ++ flat_map (λ q. q) c.args.pieces.items) ++ hauled c.args.haul.now) (held_by w ++ hauled c.pieces.haul) in
+    let Q : List (Segment NoOwner) → Type 0 = λ w. KeepsTotalsBelow (length c.pieces.mint) (held_by kept ++ hauled c.pieces.haul) (held_by w ++ hauled c.end.new.haul) in
+    keeps_below_then (length c.args.mint.now) (length c.pieces.mint) _ _ _ c.pieces.invariant.mint.1 (subst P rest (c.pieces.invariant.totals alive))
+    (subst Q (ap (λ (d : Decoding). d.kept) state.1) (c.end.ensures.totals state.0)))

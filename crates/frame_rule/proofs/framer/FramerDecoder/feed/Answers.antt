@@ -19,7 +19,7 @@ invariant_of-self g c =
     let alive : c.self.inside.dead ≡ false = c.if-self.false in
     let was = c.self.invariant.0 alive in
     let F : Option (List (Segment NoOwner)) → Type 0 = λ w. FitsBehind (nodes_if c.take_in.new.kept) w in
-    ((λ e. (was.0, (was.1.0 ++ bytes_of c.args.piece, c.in-Ok.ensures.took.took.stands was.1.0 was.1.1))), subst F (sym was.0) tt)
+    ((λ e. (was.0, (was.1.0 ++ bytes_of c.args.piece, c.in-Ok.ensures.took.took.stands was.1.0 was.1.1), c.in-Ok.ensures.used)), subst F (sym was.0) tt)
 
 pub returns-in-Ok-clause-bounded : goal.returns-in-Ok-clause-bounded
 returns-in-Ok-clause-bounded g c =

@@ -1,4 +1,4 @@
-use Rattle.std.proofs.Common.{refl, arith, ap, sym, ◌++◌, ◌-◌}
+use Rattle.std.proofs.Common.{refl, arith, ap, sym, ◌∙◌, ◌++◌, ◌∷◌, [], ◌-◌}
 use Rattle.buffer_model.proofs.Totals.{keeps_then, keeps_equal}
 use Rattle.iobuf_chain.specs.Accounts.{held_by}
 use Rattle.frame_rule.specs.declared.haul.Haul.{Haul}
@@ -7,6 +7,7 @@ use Rattle.frame_rule.specs.Hauls.{nodes_if}
 use Rattle.frame_rule.proofs.Moving.{fault_hauled, same_hauled}
 use Rattle.frame_rule.proofs.Intakes.{ends_frame, fault_totals, last_kept, on_ok, shares_last}
 use Rattle.frame_rule.proofs.Passing.{open_fed}
+use Rattle.frame_rule.proofs.Tight.{adds_unit}
 use Rattle.frame_rule.proofs.progress.Progress.finish.Goals as goal
 
 pub overflow_sub-at : goal.overflow_sub-at
@@ -32,3 +33,9 @@ returns-in_ok-give_up-in-Some-clause-totals g c =
     (keeps_then _ _ _ (keeps_equal _ _ (ap (λ w. held_by (nodes_if c.args.kept.now) ++ w) (sym (same_hauled c.args.haul.now first (c.reserve.ensures.items, refl)))))
     c.in_ok-give_up-in-Some.ensures.totals)
     (fault_hauled given now (Fault (c.args.self.now.fed - c.args.self.now.unread) c.in-Some.kind) refl c.push_reserved.ensures.items refl)
+
+pub returns-in_ok-give_up-in-Some-clause-tight : goal.returns-in_ok-give_up-in-Some-clause-tight
+returns-in_ok-give_up-in-Some-clause-tight g c tight =
+    let same = ap (λ v. v.items) c.in_ok-give_up-in-Some.ensures.units ∙ c.reserve.ensures.items in
+    adds_unit _ _ (Fault (c.args.self.now.fed - c.args.self.now.unread) c.in-Some.kind) tt
+    (c.push_reserved.ensures.items ∙ ap (λ w. w ++ Fault (c.args.self.now.fed - c.args.self.now.unread) c.in-Some.kind ∷ []) same)

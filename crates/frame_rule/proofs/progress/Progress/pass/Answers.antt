@@ -4,6 +4,7 @@ use Rattle.frame_rule.specs.declared.progress.Progress.{Progress}
 use Rattle.frame_rule.specs.declared.scanner.Scan.TheVariants.{Open, Hopeless, Frame, Fault}
 use Rattle.frame_rule.proofs.Passing.{advances_as, fault_fits, found_in, frame_fits, gives_fault, gives_frame, has_data, joins, loses, open_fed, skips, window_behind, within_chain}
 use Rattle.frame_rule.proofs.Moving.{shares_still}
+use Rattle.frame_rule.proofs.Tight.{adds_none}
 use Rattle.frame_rule.proofs.progress.Progress.pass.Goals as goal
 
 pub leave-requires-clause-there : goal.leave-requires-clause-there
@@ -61,8 +62,8 @@ returns-else-self-clause-passed g c =
     (omega (arith, c.if-self-gt0.false)) c.if-self.false
     (ap (λ (n : ℕ). c.args.self.now.fed + n) (ap length c.bytes-bytes.ensures)) (ap (λ (n : ℕ). c.args.self.now.unread + n) (ap length c.bytes-bytes.ensures)) refl refl
 
-pub returns-else-self-clause-shares : goal.returns-else-self-clause-shares
-returns-else-self-clause-shares g c heavy = shares_still _ _ _ heavy refl
+pub returns-else-self-clause-nodes : goal.returns-else-self-clause-nodes
+returns-else-self-clause-nodes g c = record { shares = λ heavy. shares_still _ _ _ heavy refl; tight = λ tight. (tight, adds_none _ _ refl) }
 
 pub lose-requires-in-Hopeless-clause-there : goal.lose-requires-in-Hopeless-clause-there
 lose-requires-in-Hopeless-clause-there g c =

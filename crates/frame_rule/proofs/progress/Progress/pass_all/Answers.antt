@@ -1,6 +1,7 @@
 use Rattle.std.proofs.Common.{refl, arith}
 use Rattle.frame_rule.proofs.Moving.{moves_further, moves_still, on_err, shares_further, shares_still}
 use Rattle.frame_rule.proofs.Passing.{passes_further, passes_none, room_later, stands_later, stops_after}
+use Rattle.frame_rule.proofs.Tight.{adds_further, adds_none}
 use Rattle.frame_rule.proofs.progress.Progress.pass_all.Goals as goal
 
 pub nodes-init : goal.nodes-init
@@ -10,7 +11,7 @@ nodes-init g c = record {
   passes = passes_none g.S.Scanner.codec_of g.S.Scanner.saw g.met.S.Scanner.checked c.args.self.now c.args.first c.with_data-i.result c.args.chain.now c.args.haul.now.units.items
       c.with_data-i.ensures.none c.with_data-i.ensures.rest c.with_data-i.ensures.within.1;
   moves = moves_still _ _ _ _ _ _ refl refl (refl, refl);
-  shares = λ heavy. shares_still _ _ _ heavy refl;
+  nodes = record { shares = λ heavy. shares_still _ _ _ heavy refl; tight = λ is. (is, adds_none _ _ refl) };
 }
 
 pub pass-requires-clause-stands : goal.pass-requires-clause-stands
@@ -41,7 +42,13 @@ nodes-preserved g c =
       passes = passes_further g.S.Scanner.codec_of g.S.Scanner.saw g.met.S.Scanner.checked c.args.self.now c.nodes.self c.pass.new.self c.args.first c.nodes.i c.with_data-i-in-nodes.result c.args.chain.now c.nodes.chain c.pass.new.chain
           _ _ _ c.nodes.invariant.passes more;
       moves = moves_further _ _ _ _ _ _ _ _ _ c.nodes.invariant.moves c.in_ok-j.ensures.moves;
-      shares = λ heavy.
-          let had = c.nodes.invariant.shares heavy in
-          shares_further _ _ _ _ _ _ had (c.in_ok-j.ensures.shares had.heavy);
+      nodes = record {
+        shares = λ heavy.
+            let had = c.nodes.invariant.nodes.shares heavy in
+            shares_further _ _ _ _ _ _ had (c.in_ok-j.ensures.nodes.shares had.heavy);
+        tight = λ is.
+            let had = c.nodes.invariant.nodes.tight is in
+            let more = c.in_ok-j.ensures.nodes.tight had.0 in
+            (more.0, adds_further _ _ _ had.1 more.1);
+      };
     }

@@ -2,9 +2,8 @@ use Rattle.std.proofs.Common.{◌≤◌, ◌<◌, length, drop}
 use Rattle.std.specs.Option.{ForSome}
 use Rattle.std.specs.List.{slice_get}
 use Rattle.buffer_model.specs.Segment.{bytes_of}
-use Rattle.iobuf_chain.specs.Copies.{IsHeavy, WithData}
 use Rattle.frame_rule.specs.Framing.{Passes}
-use Rattle.frame_rule.specs.Hauls.{Moves, SharesData}
+use Rattle.frame_rule.specs.Hauls.{CutsNodes, Moves}
 use Rattle.frame_rule.proofs.progress.Progress.pass_all.Given as goal
 
 abbrev pub invariant-nodes : goal.invariant-nodes
@@ -13,7 +12,7 @@ invariant-nodes g l = record {
   next : l.i < length l.chain → ForSome (slice_get l.chain l.i) (λ s. 0 < length s.window);
   passes : Passes g.S.Scanner.codec_of g.S.Scanner.saw l.fn.self l.self l.fn.first l.i l.fn.chain l.chain l.fn.haul.units.items l.haul.units.items;
   moves : Moves l.fn.mint l.mint l.fn.chain l.chain l.fn.haul l.haul;
-  shares : WithData IsHeavy l.fn.chain → SharesData l.fn.chain l.chain l.fn.haul.units.items l.haul.units.items;
+  nodes : CutsNodes l.fn.chain l.chain l.fn.haul.units.items l.haul.units.items;
 }
 
 abbrev pub decreases-nodes : goal.decreases-nodes

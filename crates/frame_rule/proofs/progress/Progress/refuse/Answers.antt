@@ -1,10 +1,11 @@
-use Rattle.std.proofs.Common.{refl, ap, subst, sym, ◌∙◌, ◌≡◌, ◌-◌, arith, List}
+use Rattle.std.proofs.Common.{refl, ap, subst, sym, ◌∙◌, ◌≡◌, ◌-◌, ◌++◌, ◌∷◌, [], arith, List}
 use Rattle.std.specs.Vec.{vec_len, vec_capacity}
 use Rattle.frame_rule.specs.Hauls.{SharesData}
 use Rattle.frame_rule.specs.declared.haul.Haul.{Haul}
 use Rattle.frame_rule.specs.declared.unit.FrameUnit.{FrameUnit}
 use Rattle.frame_rule.specs.declared.unit.FrameUnit.TheVariants.{Fault}
 use Rattle.frame_rule.proofs.Moving.{moves_fault, moves_from, shares_fault}
+use Rattle.frame_rule.proofs.Tight.{adds_unit}
 use Rattle.frame_rule.proofs.progress.Progress.refuse.Goals as goal
 
 pub returns-in_err-leave-clause-moves : goal.returns-in_err-leave-clause-moves
@@ -23,10 +24,16 @@ returns-clause-moves g c =
     (moves_from _ _ _ _ c.args.haul.now (record { units = c.reserve.new.self; back = c.args.haul.now.back }) c.leave.new.haul
     (c.reserve.ensures.items, refl) c.in_ok-leave.ensures.moves) refl c.push_reserved.ensures.items refl
 
-pub returns-clause-shares : goal.returns-clause-shares
-returns-clause-shares g c heavy =
+pub returns-clause-nodes : goal.returns-clause-nodes
+returns-clause-nodes g c =
     let us : List FrameUnit = c.leave.new.haul.units.items in
     let same : us ≡ c.reserve.new.self.items = ap (λ v. v.items) c.in_ok-leave.ensures.units in
-    let P : List FrameUnit → Type 0 = λ w. SharesData c.args.chain.now c.leave.new.chain w us in
-    shares_fault _ _ c.args.haul.now.units.items us c.push_reserved.new.self.items (Fault (c.args.self.now.fed - c.args.self.now.unread) c.args.kind)
-    (subst P (sym same) (c.in_ok-leave.ensures.shares heavy)) (same ∙ c.reserve.ensures.items) refl c.push_reserved.ensures.items
+    let fault : FrameUnit = Fault (c.args.self.now.fed - c.args.self.now.unread) c.args.kind in
+    let P : List FrameUnit → Type 0 = λ w. SharesData c.args.chain.now c.leave.new.chain w us in record {
+      shares = λ heavy. shares_fault _ _ c.args.haul.now.units.items us c.push_reserved.new.self.items fault
+          (subst P (sym same) (c.in_ok-leave.ensures.nodes.shares heavy)) (same ∙ c.reserve.ensures.items) refl c.push_reserved.ensures.items;
+      tight = λ tight. (
+        (c.in_ok-leave.ensures.nodes.tight tight).0,
+        adds_unit _ _ fault tt (c.push_reserved.ensures.items ∙ ap (λ w. w ++ fault ∷ []) (same ∙ c.reserve.ensures.items)),
+      );
+    }
