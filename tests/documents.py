@@ -13,6 +13,7 @@ on a document with one wrong example, one wrong name and one wrong clause.
 import glob
 import os
 import re
+import signal
 import subprocess
 import sys
 
@@ -206,11 +207,16 @@ def examples(blocks):
 
 def run_example(command, out, err, status):
     """What is wrong with an example, or nothing."""
-    done = subprocess.run(["sh", "-c", command], cwd=TOP, stdin=subprocess.DEVNULL, capture_output=True, timeout=SECONDS)
-    got = (done.stdout.decode(errors="replace").split("\n")[:-1], done.stderr.decode(errors="replace").split("\n")[:-1],
-           done.returncode)
-    if got != (out, err, status):
-        return [f"`{command}` prints {got[0]}, {got[1]}, status {got[2]}; the document has {out}, {err}, status {status}"]
+    with subprocess.Popen(["sh", "-c", command], cwd=TOP, stdin=subprocess.DEVNULL, stdout=subprocess.PIPE,
+                          stderr=subprocess.PIPE, start_new_session=True) as run:
+        try:
+            printed = [text.decode(errors="replace").split("\n")[:-1] for text in run.communicate(timeout=SECONDS)]
+        except subprocess.TimeoutExpired:
+            os.killpg(run.pid, signal.SIGKILL)
+            return [f"`{command}` isn't done after {SECONDS} seconds"]
+    if (*printed, run.returncode) != (out, err, status):
+        return [f"`{command}` prints {printed[0]}, {printed[1]}, status {run.returncode};"
+                f" the document has {out}, {err}, status {status}"]
     return []
 
 

@@ -440,13 +440,19 @@ def hostile_streams():
             in_small_memory(["frames", codec, f"--block={block}"], pieces, wanted)
 
 
+def processor_time():
+    """What the processes took that were started here and have ended, in seconds."""
+    used = resource.getrusage(resource.RUSAGE_CHILDREN)
+    return used.ru_utime + used.ru_stime
+
+
 def quickest(words, stream):
-    """The least of three times."""
+    """The least of three processor times: what else the machine does counts for less in it."""
     times = []
     for _ in range(3):
-        begun = time.monotonic()
+        begun = processor_time()
         same("status", run(words, stream)[0], 0)
-        times.append(time.monotonic() - begun)
+        times.append(processor_time() - begun)
     return min(times)
 
 
@@ -467,10 +473,23 @@ def linear_time():
         for codec, end in (("line", b"\r\n"), ("delim,hex=0d0a|0a", b"\r\n"), ("fixed,size=100", b"")):
             frame = (b"x" * payload + end) * 100
             stays_linear(["frames", codec], [frame * (size // len(frame) or 1) for size in (1 << 20, 8 << 20)])
-    tries = [("length,field=1,strip=1", b"\2ab"), ("line", b"ab\n"), ("delim,hex=00", b"ab\0"), ("fixed,size=3", b"abc")]
-    for block, (codec, frame) in zip("1231", tries):
-        words = ["frames", codec, "--block", block]
-        stays_linear(words, [frame * (size // len(frame)) for size in (1 << 17, 1 << 20)])
+    tries = [("1", "length,field=1,strip=1", b"\2ab"), ("12", "line", b"ab\n"), ("13", "delim,hex=00", b"ab\0"),
+             ("1", "fixed,size=3", b"abc")]
+    for blocks, codec, frame in tries:
+        for block in blocks:
+            words = ["frames", codec, "--block", block]
+            stays_linear(words, [frame * (size // len(frame)) for size in (1 << 17, 1 << 20)])
+
+
+def linear_time_of_long_frames():
+    """Time is linear for frames of the default maximum, and in the length of one frame that comes byte by byte."""
+    frame = framed(4, [b"x" * ((1 << 20) - 4)])
+    stays_linear(frames_words(4, 4), [frame * (size // len(frame)) for size in (4 << 20, 32 << 20)])
+    sizes = (1 << 16, 1 << 19)
+    ended = [b"x" * (size - 1) + b"\n" for size in sizes]
+    for codec, frames in (("length,field=4", [framed(4, [b"x" * (size - 4)]) for size in sizes]), ("line", ended),
+                          ("delim,hex=0d0a|0a", ended)):
+        stays_linear(["frames", codec, "--block", "1"], frames)
 
 
 def launcher():
@@ -519,8 +538,8 @@ def first_starts():
 
 
 CHECKS = [worked_examples, bad_words, named_inputs, random_frames, random_streams, odd_pieces, long_frames, real_files,
-          failing_outside, closed_streams, tiny_address_space, bounded_memory, hostile_streams, linear_time, launcher,
-          first_starts]
+          failing_outside, closed_streams, tiny_address_space, bounded_memory, hostile_streams, linear_time,
+          linear_time_of_long_frames, launcher, first_starts]
 
 
 def main():

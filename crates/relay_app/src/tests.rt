@@ -170,227 +170,283 @@ fn meets(alloc: Global, rt: &impl Abort, t: &Try) -> Result<(), Fail> {
     Ok(())
 }
 
-#[test]
-fn a_run_says_what_happened(rt: HostRuntime) -> Result<(), Fail> {
-    let alloc = rt.alloc();
-    let tries = [
-        PLAIN,
-        Try {
-            input: b"",
-            report: b"end 0\n",
-            ..PLAIN
-        },
-        Try {
-            codec: TWO_BYTES,
-            input: CUT,
-            status: CUT_FIELD,
-            report: b"X 0 Cut\nend 4\n",
-            ..PLAIN
-        },
-        Try {
-            limit: 4,
-            status: Status::Limit,
-            report: b"F 0 3 616263\nend 4\n",
-            ..PLAIN
-        },
-        Try { limit: 6, ..PLAIN },
-        Try { most: 1, ..PLAIN },
-        Try {
-            input_fails: Some(0),
-            status: Status::Source,
-            report: b"end 0\n",
-            ..PLAIN
-        },
-        Try {
-            most: 2,
-            input_fails: Some(2),
-            status: Status::Source,
-            report: b"F 0 3 616263\nend 4\n",
-            ..PLAIN
-        },
-        Try {
-            input_fails: Some(1),
-            status: Status::Source,
-            report: WHOLE,
-            ..PLAIN
-        },
-        Try {
-            report_fails: Some(0),
-            status: Status::Report,
-            report: b"",
-            ..PLAIN
-        },
-        Try {
-            report_fails: Some(1),
-            ..PLAIN
-        },
-        Try {
-            room: 5,
-            status: Status::Report,
-            report: b"F 0 3",
-            ..PLAIN
-        },
-        Try {
-            codec: TWO_BYTES,
-            input: CUT,
-            report_fails: Some(0),
-            status: CUT_FIELD,
-            report: b"",
-            ..PLAIN
-        },
-        Try {
-            input_fails: Some(1),
-            report_fails: Some(0),
-            status: Status::Source,
-            report: b"",
-            ..PLAIN
-        },
-        Try {
-            limit: 4,
-            report_fails: Some(0),
-            status: Status::Limit,
-            report: b"",
-            ..PLAIN
-        },
-        Try {
-            codec: TWO_BYTES,
-            input: CUT,
-            most: 2,
-            input_fails: Some(1),
-            status: Status::Source,
-            report: b"end 2\n",
-            ..PLAIN
-        },
-        Try {
-            codec: TWO_BYTES,
-            input: CUT,
-            limit: 3,
-            status: Status::Limit,
-            report: b"end 3\n",
-            ..PLAIN
-        },
-        Try {
-            limit: 6,
-            most: 6,
-            input_fails: Some(1),
-            status: Status::Source,
-            ..PLAIN
-        },
-    ];
+fn all_meet(alloc: Global, rt: &impl Abort, tries: &[Try<'_>]) -> Result<(), Fail> {
     for t in tries {
-        meets(alloc, &rt, &t)?;
+        meets(alloc, rt, t)?;
     }
     Ok(())
 }
 
 #[test]
-fn so_does_a_run_by_another_codec(rt: HostRuntime) -> Result<(), Fail> {
-    let alloc = rt.alloc();
-    let tries = [
-        OF_LINES,
-        OF_MARKS,
-        OF_TWO,
-        Try {
-            codec: "line,end=lf,strip=no",
-            report: b"F 0 3 610d0a\nF 3 1 0a\nF 4 2 6263\nend 6\n",
-            ..OF_LINES
-        },
-        Try {
-            codec: "line,end=crlf",
-            report: b"F 0 1 61\nF 3 3 0a6263\nend 6\n",
-            ..OF_LINES
-        },
-        Try {
-            codec: "line,max=2",
-            input: b"abcd\ne",
-            status: LONG_LINE,
-            report: b"X 0 TooLong\nF 5 1 65\nend 6\n",
-            ..OF_LINES
-        },
-        Try {
-            limit: 5,
-            status: Status::Limit,
-            report: b"F 0 1 61\nF 3 0 -\nend 5\n",
-            ..OF_LINES
-        },
-        Try {
-            most: 2,
-            input_fails: Some(1),
-            status: Status::Source,
-            report: b"end 2\n",
-            ..OF_LINES
-        },
-        Try {
-            most: 3,
-            input_fails: Some(1),
-            status: Status::Source,
-            report: b"F 0 1 61\nend 3\n",
-            ..OF_LINES
-        },
-        Try {
-            input_fails: Some(1),
-            status: Status::Source,
-            report: b"F 0 1 61\nF 3 0 -\nend 6\n",
-            ..OF_LINES
-        },
-        Try {
-            room: 12,
-            status: Status::Report,
-            report: b"F 0 1 61\nF 3",
-            ..OF_LINES
-        },
-        Try {
-            most: 4,
-            input_fails: Some(1),
-            status: Status::Source,
-            report: b"F 0 1 61\nF 2 0 -\nend 4\n",
-            ..OF_MARKS
-        },
-        Try {
-            limit: 4,
-            status: Status::Limit,
-            report: b"F 0 1 61\nF 2 0 -\nend 4\n",
-            ..OF_MARKS
-        },
-        Try {
-            report_fails: Some(0),
-            status: Status::Report,
-            report: b"",
-            ..OF_MARKS
-        },
-        Try {
-            codec: "delim,hex=00",
-            input: b"a\0b",
-            status: Status::Stream {
-                at: 2,
-                kind: FaultKind::Cut,
+fn a_run_says_what_it_read(rt: HostRuntime) -> Result<(), Fail> {
+    all_meet(
+        rt.alloc(),
+        &rt,
+        &[
+            PLAIN,
+            Try {
+                input: b"",
+                report: b"end 0\n",
+                ..PLAIN
             },
-            report: b"F 0 1 61\nX 2 Cut\nend 3\n",
-            ..OF_MARKS
-        },
-        Try {
-            most: 3,
-            input_fails: Some(1),
-            status: Status::Source,
-            report: b"F 0 2 6162\nend 3\n",
-            ..OF_TWO
-        },
-        Try {
-            limit: 3,
-            status: Status::Limit,
-            report: b"F 0 2 6162\nend 3\n",
-            ..OF_TWO
-        },
-        Try {
-            room: 8,
-            report: b"F 0 2 61",
-            ..OF_TWO
-        },
-    ];
-    for t in tries {
-        meets(alloc, &rt, &t)?;
-    }
-    Ok(())
+            Try {
+                codec: TWO_BYTES,
+                input: CUT,
+                status: CUT_FIELD,
+                report: b"X 0 Cut\nend 4\n",
+                ..PLAIN
+            },
+            Try {
+                limit: 4,
+                status: Status::Limit,
+                report: b"F 0 3 616263\nend 4\n",
+                ..PLAIN
+            },
+            Try { limit: 6, ..PLAIN },
+            Try { most: 1, ..PLAIN },
+        ],
+    )
+}
+
+#[test]
+fn a_run_says_that_its_input_failed(rt: HostRuntime) -> Result<(), Fail> {
+    all_meet(
+        rt.alloc(),
+        &rt,
+        &[
+            Try {
+                input_fails: Some(0),
+                status: Status::Source,
+                report: b"end 0\n",
+                ..PLAIN
+            },
+            Try {
+                most: 2,
+                input_fails: Some(2),
+                status: Status::Source,
+                report: b"F 0 3 616263\nend 4\n",
+                ..PLAIN
+            },
+            Try {
+                input_fails: Some(1),
+                status: Status::Source,
+                report: WHOLE,
+                ..PLAIN
+            },
+        ],
+    )
+}
+
+#[test]
+fn a_run_says_that_its_report_failed(rt: HostRuntime) -> Result<(), Fail> {
+    all_meet(
+        rt.alloc(),
+        &rt,
+        &[
+            Try {
+                report_fails: Some(0),
+                status: Status::Report,
+                report: b"",
+                ..PLAIN
+            },
+            Try {
+                report_fails: Some(1),
+                ..PLAIN
+            },
+            Try {
+                room: 5,
+                status: Status::Report,
+                report: b"F 0 3",
+                ..PLAIN
+            },
+        ],
+    )
+}
+
+// Where two things end a run otherwise than well, and where a stream is cut off inside a frame.
+#[test]
+fn a_run_says_the_first_of_two_causes(rt: HostRuntime) -> Result<(), Fail> {
+    all_meet(
+        rt.alloc(),
+        &rt,
+        &[
+            Try {
+                codec: TWO_BYTES,
+                input: CUT,
+                report_fails: Some(0),
+                status: CUT_FIELD,
+                report: b"",
+                ..PLAIN
+            },
+            Try {
+                input_fails: Some(1),
+                report_fails: Some(0),
+                status: Status::Source,
+                report: b"",
+                ..PLAIN
+            },
+            Try {
+                limit: 4,
+                report_fails: Some(0),
+                status: Status::Limit,
+                report: b"",
+                ..PLAIN
+            },
+            Try {
+                codec: TWO_BYTES,
+                input: CUT,
+                most: 2,
+                input_fails: Some(1),
+                status: Status::Source,
+                report: b"end 2\n",
+                ..PLAIN
+            },
+            Try {
+                codec: TWO_BYTES,
+                input: CUT,
+                limit: 3,
+                status: Status::Limit,
+                report: b"end 3\n",
+                ..PLAIN
+            },
+            Try {
+                limit: 6,
+                most: 6,
+                input_fails: Some(1),
+                status: Status::Source,
+                ..PLAIN
+            },
+        ],
+    )
+}
+
+#[test]
+fn a_run_over_lines(rt: HostRuntime) -> Result<(), Fail> {
+    all_meet(
+        rt.alloc(),
+        &rt,
+        &[
+            OF_LINES,
+            Try {
+                codec: "line,end=lf,strip=no",
+                report: b"F 0 3 610d0a\nF 3 1 0a\nF 4 2 6263\nend 6\n",
+                ..OF_LINES
+            },
+            Try {
+                codec: "line,end=crlf",
+                report: b"F 0 1 61\nF 3 3 0a6263\nend 6\n",
+                ..OF_LINES
+            },
+            Try {
+                codec: "line,max=2",
+                input: b"abcd\ne",
+                status: LONG_LINE,
+                report: b"X 0 TooLong\nF 5 1 65\nend 6\n",
+                ..OF_LINES
+            },
+            Try {
+                limit: 5,
+                status: Status::Limit,
+                report: b"F 0 1 61\nF 3 0 -\nend 5\n",
+                ..OF_LINES
+            },
+            Try {
+                most: 2,
+                input_fails: Some(1),
+                status: Status::Source,
+                report: b"end 2\n",
+                ..OF_LINES
+            },
+            Try {
+                most: 3,
+                input_fails: Some(1),
+                status: Status::Source,
+                report: b"F 0 1 61\nend 3\n",
+                ..OF_LINES
+            },
+            Try {
+                input_fails: Some(1),
+                status: Status::Source,
+                report: b"F 0 1 61\nF 3 0 -\nend 6\n",
+                ..OF_LINES
+            },
+            Try {
+                room: 12,
+                status: Status::Report,
+                report: b"F 0 1 61\nF 3",
+                ..OF_LINES
+            },
+        ],
+    )
+}
+
+#[test]
+fn a_run_over_delimited_frames(rt: HostRuntime) -> Result<(), Fail> {
+    all_meet(
+        rt.alloc(),
+        &rt,
+        &[
+            OF_MARKS,
+            Try {
+                most: 4,
+                input_fails: Some(1),
+                status: Status::Source,
+                report: b"F 0 1 61\nF 2 0 -\nend 4\n",
+                ..OF_MARKS
+            },
+            Try {
+                limit: 4,
+                status: Status::Limit,
+                report: b"F 0 1 61\nF 2 0 -\nend 4\n",
+                ..OF_MARKS
+            },
+            Try {
+                report_fails: Some(0),
+                status: Status::Report,
+                report: b"",
+                ..OF_MARKS
+            },
+            Try {
+                codec: "delim,hex=00",
+                input: b"a\0b",
+                status: Status::Stream {
+                    at: 2,
+                    kind: FaultKind::Cut,
+                },
+                report: b"F 0 1 61\nX 2 Cut\nend 3\n",
+                ..OF_MARKS
+            },
+        ],
+    )
+}
+
+#[test]
+fn a_run_over_equal_frames(rt: HostRuntime) -> Result<(), Fail> {
+    all_meet(
+        rt.alloc(),
+        &rt,
+        &[
+            OF_TWO,
+            Try {
+                most: 3,
+                input_fails: Some(1),
+                status: Status::Source,
+                report: b"F 0 2 6162\nend 3\n",
+                ..OF_TWO
+            },
+            Try {
+                limit: 3,
+                status: Status::Limit,
+                report: b"F 0 2 6162\nend 3\n",
+                ..OF_TWO
+            },
+            Try {
+                room: 8,
+                report: b"F 0 2 61",
+                ..OF_TWO
+            },
+        ],
+    )
 }
 
 fn words_of(alloc: Global, line: &str) -> Result<Vec<String>, AllocError> {
@@ -445,11 +501,25 @@ fn words_that_are_bad_are_refused(rt: HostRuntime) -> Result<(), Fail> {
     Ok(())
 }
 
-// What good words make of a standard input of two frames and an input `named` of one.
+// What good words make of a standard input of two frames, an input `named` of one and one that is `empty`.
+fn run_as(
+    alloc: Global,
+    rt: &impl Abort,
+    text: &str,
+    status: Status,
+    report: &[u8],
+) -> Result<(), Fail> {
+    let words = words_of(alloc, format!(in alloc; "frames {text}")?.as_str())?;
+    let mut host = named_host(alloc, TWO, b"\x01y")?.ok_or("no room")?;
+    host.add_in("empty", MemSource::new(Vec::new(alloc), 1, Vec::new(alloc)))?;
+    assert_eq!(rt; run_plain(alloc, &mut host, &words), status);
+    assert_eq!(rt; host.sink().bytes(), report);
+    Ok(())
+}
+
 #[test]
-fn good_words_run(rt: HostRuntime) -> Result<(), Fail> {
-    let alloc = rt.alloc();
-    let tries: [(&str, Status, &[u8]); 18] = [
+fn frames_by_their_codec(rt: HostRuntime) -> Result<(), Fail> {
+    let tries: [(&str, Status, &[u8]); 6] = [
         ("length,field=1,strip=1", Status::Fine, WHOLE),
         ("length,strip=1,field=1 --block 1", Status::Fine, WHOLE),
         (
@@ -457,6 +527,37 @@ fn good_words_run(rt: HostRuntime) -> Result<(), Fail> {
             Status::Fine,
             b"F 0 4 03616263\nF 4 2 0178\nend 6\n",
         ),
+        (
+            "delim,hex=63|01",
+            Status::Stream {
+                at: 5,
+                kind: FaultKind::Cut,
+            },
+            b"F 0 3 036162\nF 4 0 -\nX 5 Cut\nend 6\n",
+        ),
+        (
+            "fixed,size=3 --block 2",
+            Status::Fine,
+            b"F 0 3 036162\nF 3 3 630178\nend 6\n",
+        ),
+        (
+            "length,field=1,max=1",
+            Status::Stream {
+                at: 0,
+                kind: FaultKind::TooLong,
+            },
+            b"X 0 TooLong\nX 4 TooLong\nend 6\n",
+        ),
+    ];
+    for (text, status, report) in tries {
+        run_as(rt.alloc(), &rt, text, status, report)?;
+    }
+    Ok(())
+}
+
+#[test]
+fn frames_up_to_a_limit(rt: HostRuntime) -> Result<(), Fail> {
+    let tries: [(&str, Status, &[u8]); 4] = [
         ("length,field=1,strip=1 --limit 6", Status::Fine, WHOLE),
         (
             "length,field=1,strip=1 --limit 5",
@@ -469,6 +570,16 @@ fn good_words_run(rt: HostRuntime) -> Result<(), Fail> {
             b"F 0 3 616263\nend 5\n",
         ),
         ("length,field=1 --limit 0", Status::Limit, b"end 0\n"),
+    ];
+    for (text, status, report) in tries {
+        run_as(rt.alloc(), &rt, text, status, report)?;
+    }
+    Ok(())
+}
+
+#[test]
+fn frames_of_a_named_input(rt: HostRuntime) -> Result<(), Fail> {
+    let tries: [(&str, Status, &[u8]); 8] = [
         (
             "length,field=1,strip=1 --limit 0 --in empty",
             Status::Fine,
@@ -494,19 +605,6 @@ fn good_words_run(rt: HostRuntime) -> Result<(), Fail> {
             CUT_FIELD,
             b"X 0 Cut\nend 2\n",
         ),
-        (
-            "delim,hex=63|01",
-            Status::Stream {
-                at: 5,
-                kind: FaultKind::Cut,
-            },
-            b"F 0 3 036162\nF 4 0 -\nX 5 Cut\nend 6\n",
-        ),
-        (
-            "fixed,size=3 --block 2",
-            Status::Fine,
-            b"F 0 3 036162\nF 3 3 630178\nend 6\n",
-        ),
         ("line --in named", Status::Fine, b"F 0 2 0179\nend 2\n"),
         (
             "length,field=1 --in other",
@@ -514,21 +612,9 @@ fn good_words_run(rt: HostRuntime) -> Result<(), Fail> {
             b"",
         ),
         ("length,field=1 --in nam", Status::NotOpened { nth: 0 }, b""),
-        (
-            "length,field=1,max=1",
-            Status::Stream {
-                at: 0,
-                kind: FaultKind::TooLong,
-            },
-            b"X 0 TooLong\nX 4 TooLong\nend 6\n",
-        ),
     ];
     for (text, status, report) in tries {
-        let words = words_of(alloc, format!(in alloc; "frames {text}")?.as_str())?;
-        let mut host = named_host(alloc, TWO, b"\x01y")?.ok_or("no room")?;
-        host.add_in("empty", MemSource::new(Vec::new(alloc), 1, Vec::new(alloc)))?;
-        assert_eq!(rt; run_plain(alloc, &mut host, &words), status);
-        assert_eq!(rt; host.sink().bytes(), report);
+        run_as(rt.alloc(), &rt, text, status, report)?;
     }
     Ok(())
 }
