@@ -3,10 +3,10 @@ use Rattle.std.proofs.Common.{◌≡◌, ◌⊎◌, ℕ, ◌≤◌, [], ◌∷�
 use Rattle.share_count.specs.Held.{Tally}
 use Rattle.buffer_model.specs.Share.{Share, own, rest_of, part_of, IsOfStorage}
 use Rattle.buffer_model.specs.Segment.{Segment, shared_as}
-use Rattle.buffer_model.specs.Stake.{held, KeepsTotalsBelow}
+use Rattle.buffer_model.specs.Stake.{held, KeepsTotalsBeside}
 use Rattle.buffer_model.specs.Minted.{Numbers, Adds}
 use Rattle.buffer_model.specs.Clones.{Splits, Renews, Clones, SharesPart}
-use Rattle.buffer_model.proofs.Totals.{keeps_same, keeps_below, keeps_wrapped_in, keeps_beside_last, share_keeps}
+use Rattle.buffer_model.proofs.Totals.{keeps_same, keeps_any, keeps_wrapped_in, keeps_beside_last, share_keeps}
 
 module _ {O : Type 0} where
   -- a window that stayed has its own three lists
@@ -20,22 +20,23 @@ module _ {O : Type 0} where
   pub share_of : (s t : Segment O) (k : Share O) → t ≡ shared_as k s → t.share ≡ k
   share_of s t k is = ap (λ (x : Segment O). x.share) is
 
-  at_shares : (n : ℕ) (s t c x y : Share O) → t ≡ x → c ≡ y → KeepsTotalsBelow n (held s ∷ []) (held x ∷ held y ∷ []) → KeepsTotalsBelow n (held s ∷ []) (held t ∷ held c ∷ [])
-  at_shares n s t c x y first second keeps =
-      let P : Share O → Type 0 = λ z. KeepsTotalsBelow n (held s ∷ []) (held z ∷ held y ∷ []) in
-      let Q : Share O → Type 0 = λ z. KeepsTotalsBelow n (held s ∷ []) (held t ∷ held z ∷ []) in
-      subst Q (sym second) (subst P (sym first) keeps)
+  module _ (a b : Numbers) where
+    at_shares : (s t c x y : Share O) → t ≡ x → c ≡ y → KeepsTotalsBeside a b (held s ∷ []) (held x ∷ held y ∷ []) → KeepsTotalsBeside a b (held s ∷ []) (held t ∷ held c ∷ [])
+    at_shares s t c x y first second keeps =
+        let P : Share O → Type 0 = λ z. KeepsTotalsBeside a b (held s ∷ []) (held z ∷ held y ∷ []) in
+        let Q : Share O → Type 0 = λ z. KeepsTotalsBeside a b (held s ∷ []) (held t ∷ held z ∷ []) in
+        subst Q (sym second) (subst P (sym first) keeps)
 
-  -- a part that is given away stays in sum
-  pub splits_keep : (n : ℕ) (s t k : Share O) → Splits s t k → KeepsTotalsBelow n (held s ∷ []) (held t ∷ held k ∷ [])
-  splits_keep n s t k (inl w) = at_shares n s t k s s w.1 w.2 (keeps_below n _ _ (keeps_wrapped_in s _ _ w.0 (keeps_same (held s ∷ []))))
-  splits_keep n s t k (inr w) = at_shares n s t k _ _ w.1 w.2 (keeps_below n _ _ (share_keeps s w.0))
+    -- a part that is given away stays in sum
+    pub splits_keep : (s t k : Share O) → Splits s t k → KeepsTotalsBeside a b (held s ∷ []) (held t ∷ held k ∷ [])
+    splits_keep s t k (inl w) = at_shares s t k s s w.1 w.2 (keeps_any a b _ _ (keeps_wrapped_in s _ _ w.0 (keeps_same (held s ∷ []))))
+    splits_keep s t k (inr w) = at_shares s t k _ _ w.1 w.2 (keeps_any a b _ _ (share_keeps s w.0))
 
-  shares_keep : (old new : Numbers) (s t k : Share O) → ((new ≡ old) × Splits s t k) ⊎ (Adds 1 old new × Renews old new s t k) → KeepsTotalsBelow (length old) (held s ∷ []) (held t ∷ held k ∷ [])
-  shares_keep old new s t k (inl w) = splits_keep (length old) s t k w.1
-  shares_keep old new s t k (inr w) = at_shares (length old) s t k s k w.1.1 refl (keeps_beside_last old new own s k w.1.2)
+    shares_keep : (s t k : Share O) → ((b ≡ a) × Splits s t k) ⊎ (Adds 1 a b × Renews a b s t k) → KeepsTotalsBeside a b (held s ∷ []) (held t ∷ held k ∷ [])
+    shares_keep s t k (inl w) = splits_keep s t k w.1
+    shares_keep s t k (inr w) = at_shares s t k s k w.1.1 refl (keeps_beside_last a b own s k w.1.2)
 
-  pub clone_keeps_totals : (old new : Numbers) (s t c : Segment O) → Clones old new s t c → KeepsTotalsBelow (length old) (held s.share ∷ []) (held t.share ∷ held c.share ∷ [])
+  pub clone_keeps_totals : (old new : Numbers) (s t c : Segment O) → Clones old new s t c → KeepsTotalsBeside old new (held s.share ∷ []) (held t.share ∷ held c.share ∷ [])
   clone_keeps_totals old new s t c is = shares_keep old new s.share t.share c.share is.shares
 
   same_storage : (t c x y : Share O) (r : Tally) → t ≡ x → c ≡ y → x.number ≡ y.number → x.table ≡ y.table → IsOfStorage c r → IsOfStorage t r

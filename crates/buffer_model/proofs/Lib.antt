@@ -1,4 +1,5 @@
 pub mod Windows
+pub mod Storages
 pub mod Totals
 pub mod Minted
 pub mod Clones

@@ -6,7 +6,7 @@ use Rattle.share_count.proofs.Shelves.{find_old, find_new}
 use Rattle.atomic_table.specs.Seated.{TableId}
 use Rattle.share_count.specs.Held.{Tally}
 use Rattle.buffer_model.specs.Share.{Share, Way, IsOfStorage, fresh}
-use Rattle.buffer_model.specs.Minted.{Numbers, Adds, AddsAtMost, IsNumberedAs, IsBetween, IsOfMint, IsReceiptOfMint, IsNew}
+use Rattle.buffer_model.specs.Minted.{Numbers, Adds, AddsAtMost, NumbersOn, IsNumberedAs, IsBetween, IsOfMint, IsReceiptOfMint, IsNew}
 
 pub adds_one : (old new : Numbers) (t : Option TableId) → new ≡ old ++ t ∷ [] → Adds 1 old new
 adds_one old new t is =
@@ -17,6 +17,19 @@ adds_none n old new is = let same = ap length is in ((λ n table at. ap (λ x. f
 
 pub adds_at_most : (m n : ℕ) (old new : Numbers) → Adds m old new → m ≤ n → AddsAtMost n old new
 adds_at_most m n old new is le = let more = is.1 in (is.0, omega (arith, more), omega (arith, more))
+
+-- each says that the mint went on
+pub same_on : (old new : Numbers) → new ≡ old → NumbersOn old new
+same_on old new is = let adds = adds_none 0 old new is in (adds.0, adds.1)
+
+pub adds_on : (n : ℕ) (old new : Numbers) → Adds n old new → NumbersOn old new
+adds_on n old new is = let more = is.1 in (is.0, omega (arith, more))
+
+pub at_most_on : (n : ℕ) (old new : Numbers) → AddsAtMost n old new → NumbersOn old new
+at_most_on n old new is = (is.0, is.1)
+
+pub on_then : (a b c : Numbers) → NumbersOn a b → NumbersOn b c → NumbersOn a c
+on_then a b c p q = let low = p.1 in let low' = q.1 in ((λ k table at. q.0 k table (p.0 k table at)), omega (arith, low, low'))
 
 pub adds_then : (m n : ℕ) (a b c : Numbers) → AddsAtMost m a b → AddsAtMost n b c → AddsAtMost (m + n) a c
 adds_then m n a b c p q =

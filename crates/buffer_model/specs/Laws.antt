@@ -3,8 +3,8 @@ use Rattle.std.specs.Prelude.{◌≡◌, ℕ, ◌+◌, ◌≤◌, List, ◌∷�
 use Rattle.share_count.specs.Held.{Tally}
 use Rattle.buffer_model.specs.Share.{Share, Way, IsOfStorage, rest_of, part_of, absorbed_in}
 use Rattle.buffer_model.specs.Segment.{Segment, block_of, bytes_of, cut, trimmed_start, trimmed_end, appended, prepended}
-use Rattle.buffer_model.specs.Stake.{Stake, held, counted, total, Keeps, KeepsTotals, KeepsTotalsBelow}
-use Rattle.buffer_model.specs.Minted.{Numbers, AddsAtMost, IsOfMint, IsReceiptOfMint, IsNew}
+use Rattle.buffer_model.specs.Stake.{Stake, Storage, held, counted, total, Keeps, KeepsTotals, KeepsTotalsBeside, IsNumberedIn}
+use Rattle.buffer_model.specs.Minted.{Numbers, NumbersOn, AddsAtMost, IsOfMint, IsReceiptOfMint, IsNew}
 use Rattle.buffer_model.specs.Clones.{Clones}
 
 abbrev pub CutKeepsBlock : Type 0 → Type 0
@@ -31,19 +31,28 @@ abbrev pub JoinsBytes : Type 0 → Type 0
 JoinsBytes O = (xs ys : List (Segment O)) → bytes_of (xs ++ ys) ≡ bytes_of xs ++ bytes_of ys
 
 abbrev pub TotalsAdd : Type 0 → Type 0
-TotalsAdd O = (n : ℕ) (xs ys : List (Stake O)) → total n (xs ++ ys) ≡ total n xs + total n ys
+TotalsAdd O = (z : Storage) (xs ys : List (Stake O)) → total z (xs ++ ys) ≡ total z xs + total z ys
 
 abbrev pub KeepsAfterKeeps : Type 0 → Type 0
 KeepsAfterKeeps O = (xs ys zs : List (Stake O)) → KeepsTotals xs ys → KeepsTotals ys zs → KeepsTotals xs zs
 
 abbrev pub KeepsBesideKeeps : Type 0 → Type 0
 KeepsBesideKeeps O =
-    (n : ℕ) (xs ys us vs : List (Stake O)) → Keeps xs us n → Keeps ys vs n → Keeps (xs ++ ys) (us ++ vs) n
+    (z : Storage) (xs ys us vs : List (Stake O)) → Keeps xs us z → Keeps ys vs z → Keeps (xs ++ ys) (us ++ vs) z
 
-abbrev pub KeepsAsCountGrows : Type 0 → Type 0
-KeepsAsCountGrows O =
-    (m n : ℕ) (xs ys zs : List (Stake O)) → m ≤ n
-    → KeepsTotalsBelow m xs ys → KeepsTotalsBelow n ys zs → KeepsTotalsBelow m xs zs
+abbrev pub KeepsAsMintGoesOn : Type 0 → Type 0
+KeepsAsMintGoesOn O =
+    (a b c : Numbers) (xs ys zs : List (Stake O)) → NumbersOn a b → NumbersOn b c
+    → KeepsTotalsBeside a b xs ys → KeepsTotalsBeside b c ys zs → KeepsTotalsBeside a c xs zs
+
+abbrev pub NothingNumberedKeepsAll : Type 0 → Type 0
+NothingNumberedKeepsAll O =
+    (mint : Numbers) (xs ys : List (Stake O)) → KeepsTotalsBeside mint mint xs ys → KeepsTotals xs ys
+
+abbrev pub NoOtherStorage : Type 0 → Type 0
+NoOtherStorage O =
+    (old new : Numbers) (entry exit : List (Stake O)) (z : Storage) → KeepsTotalsBeside old new entry exit
+    → total z entry ≡ 0 → (IsNumberedIn old new z → ⊥) → total z exit ≡ 0
 
 abbrev pub ShareKeepsTotals : Type 0 → Type 0
 ShareKeepsTotals O = (s : Share O) → 2 ≤ s.weight → KeepsTotals (held s ∷ []) (held (rest_of s) ∷ held (part_of s) ∷ [])
@@ -56,7 +65,7 @@ AbsorbKeepsTotals O =
 abbrev pub CloneKeepsTotals : Type 0 → Type 0
 CloneKeepsTotals O =
     (old new : Numbers) (before after clone : Segment O) → Clones old new before after clone
-    → KeepsTotalsBelow (length old) (held before.share ∷ []) (held after.share ∷ held clone.share ∷ [])
+    → KeepsTotalsBeside old new (held before.share ∷ []) (held after.share ∷ held clone.share ∷ [])
 
 abbrev pub OneMintOneStorage : Type 0 → Type 0
 OneMintOneStorage O =

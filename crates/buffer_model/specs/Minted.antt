@@ -15,7 +15,11 @@ Numbers = List (Option TableId)
 abbrev pub StayNumbered : Numbers → Numbers → Type 0
 StayNumbered old new = (n : ℕ) (table : TableId) → IsNumbered old n table → IsNumbered new n table
 
--- between two moments the mint numbered so many storages
+-- between two moments the mint numbered more storages, or none
+abbrev pub NumbersOn : Numbers → Numbers → Type 0
+NumbersOn old new = StayNumbered old new × (length old ≤ length new)
+
+-- between two moments it numbered so many
 abbrev pub Adds : ℕ → Numbers → Numbers → Type 0
 Adds n old new = StayNumbered old new × (length new ≡ length old + n)
 

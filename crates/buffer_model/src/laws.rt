@@ -1,6 +1,7 @@
 //! Laws of the definitions: each is the contract of a function that does nothing.
 ghost use Rattle.buffer_model.specs.Laws.{CutKeepsBlock, TrimsCompose, TrimsKeepBlock, RoomsKeepBlock, AppendUndoesTrim, PrependUndoesTrim, JoinsBytes, TotalsAdd};
-ghost use Rattle.buffer_model.specs.Laws.{KeepsAfterKeeps, KeepsBesideKeeps, KeepsAsCountGrows, ShareKeepsTotals, AbsorbKeepsTotals, CloneKeepsTotals};
+ghost use Rattle.buffer_model.specs.Laws.{KeepsAfterKeeps, KeepsBesideKeeps, KeepsAsMintGoesOn, ShareKeepsTotals, AbsorbKeepsTotals, CloneKeepsTotals};
+ghost use Rattle.buffer_model.specs.Laws.{NothingNumberedKeepsAll, NoOtherStorage};
 ghost use Rattle.buffer_model.specs.Laws.{OneMintOneStorage, AddsCompose, NewStaysNew, NewAfterwardsIsNew};
 
 /// Wherever a block is cut, the three lists join to it.
@@ -53,10 +54,20 @@ pub fn keeps_beside_keeps<O: Drop>()
     ensures { KeepsBesideKeeps O }
 {}
 
-/// A call that keeps totals of the storages that were numbered before it, after one that does, keeps those of the
-/// first call's, also where the mint has numbered more in between.
-pub fn keeps_as_count_grows<O: Drop>()
-    ensures { KeepsAsCountGrows O }
+/// A call that keeps totals beside what the mint numbers in it, and one that follows and does, are together one that
+/// does.
+pub fn keeps_as_mint_goes_on<O: Drop>()
+    ensures { KeepsAsMintGoesOn O }
+{}
+
+/// A call in which the mint numbers nothing keeps all totals.
+pub fn nothing_numbered_keeps_all<O: Drop>()
+    ensures { NothingNumberedKeepsAll O }
+{}
+
+/// Storages come from two places alone: those that were there as a call began, and those that its mint numbered in it.
+pub fn no_other_storage<O: Drop>()
+    ensures { NoOtherStorage O }
 {}
 
 /// A share that is given away stays in sum with what is left.

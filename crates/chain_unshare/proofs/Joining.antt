@@ -1,12 +1,13 @@
 -- Nodes that become one.
+use Rattle.std.specs.Prelude.{IfOk, Result, Ok, Err}
 use Rattle.std.proofs.Common.{◌≡◌, ℕ, suc, zero, ◌+◌, ◌-◌, ◌<◌, ◌≤◌, List, [], ◌∷◌, ◌++◌, Option, Some, length, take, drop, replicate, refl, sym, ap, subst, ◌∙◌, append_assoc, arith, length-append, slice_get, slice_set}
 use Rattle.std.proofs.lemmas.Option.{none-some}
 use Rattle.std.proofs.lemmas.List.{append-nil, take-append-drop, take_all, take_at, drop_at, length-take, take-take, length-replicate}
 use Rattle.buffer_model.specs.Share.{Share, own, claimed}
 use Rattle.buffer_model.specs.Segment.{Segment, bytes_of, between_rooms, appended, rewritten, shared_as, trimmed_start, trimmed_end}
-use Rattle.buffer_model.specs.Stake.{Stake, KeepsTotals, KeepsTotalsBelow}
+use Rattle.buffer_model.specs.Stake.{Stake, held, KeepsTotals, KeepsTotalsBeside}
 use Rattle.buffer_model.specs.Minted.{Numbers, IsNew}
-use Rattle.buffer_model.proofs.Totals.{keeps_same, keeps_equal, keeps-append, keeps_beside}
+use Rattle.buffer_model.proofs.Totals.{keeps_same, keeps_equal, keeps-append, keeps_beside, keeps_made}
 use Rattle.storage.specs.declared.back.Back.{Back}
 use Rattle.storage.specs.Back.{stakes_in}
 use Rattle.iobuf_chain.specs.Accounts.{held_by}
@@ -210,7 +211,7 @@ module _ {O : Type 0} where
 
   pub folds_totals : (old new : Numbers) (before front rest after : List (Segment O)) (backs : List (Back O)) → before ≡ front ++ rest
       → Folds old new front rest after → KeepsTotals (held_by front) (stakes_in backs)
-      → KeepsTotalsBelow (length old) (held_by before) (held_by after ++ stakes_in backs)
+      → KeepsTotalsBeside old new (held_by before) (held_by after ++ stakes_in backs)
   folds_totals old new before front rest after backs parts is keeps n h =
       let all : List (Stake O) = held_by rest ++ stakes_in backs in
       keeps_trans n _ _ _ (same_nodes _ _ parts n)
@@ -219,6 +220,11 @@ module _ {O : Type 0} where
       (keeps_trans n _ _ _ (keeps-append n (held_by rest) (held_by front) (held_by rest) (stakes_in backs) (keeps_same (held_by rest) n) (keeps n))
       (keeps_trans n _ _ _ (keeps_beside old new own is.node.share all all is.joins.storage (keeps_same all) n h)
       (keeps_equal _ _ (ap (λ ys. held_by ys ++ stakes_in backs) (sym is.after_is)) n)))))
+
+  pub joined_totals : {E : Type 0} (old new : Numbers) (before : List (Segment O)) (r : Result (Segment O) E) → IfOk r (Joins old new before)
+      → IfOk r (λ n. KeepsTotalsBeside old new [] (held n.share ∷ []))
+  joined_totals old new before (Ok n) is = keeps_made old new own n.share is.storage
+  joined_totals old new before (Err e) is = tt
 
   pub backs_of : (runs : O → ℕ) (last : O → Option (List ℕ)) (xs ys : List (Segment O)) (backs : List (Back O)) → xs ≡ ys → HandBack runs last xs backs
       → HandBack runs last ys backs

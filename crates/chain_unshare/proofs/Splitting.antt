@@ -4,11 +4,11 @@ use Rattle.std.proofs.lemmas.List.{append-nil, take-append-drop, take_all, drop-
 use Rattle.std.proofs.Math.Seq.{drop-nil}
 use Rattle.buffer_model.specs.Share.{Share, own}
 use Rattle.buffer_model.specs.Segment.{Segment, bytes_of, trimmed_start, trimmed_end, between_rooms}
-use Rattle.buffer_model.specs.Stake.{Stake, Keeps, KeepsTotalsBelow}
-use Rattle.buffer_model.specs.Minted.{Numbers, AddsAtMost}
+use Rattle.buffer_model.specs.Stake.{Stake, Storage, Keeps, KeepsTotalsBeside}
+use Rattle.buffer_model.specs.Minted.{Numbers, NumbersOn, AddsAtMost}
 use Rattle.buffer_model.specs.Clones.{Clones}
-use Rattle.buffer_model.proofs.Totals.{keeps_same, keeps_equal, keeps_below, keeps-append, keeps_made}
-use Rattle.buffer_model.proofs.Minted.{adds_none, adds_at_most}
+use Rattle.buffer_model.proofs.Totals.{keeps_same, keeps_equal, keeps_any, keeps-append, keeps_made, apart_first, apart_then}
+use Rattle.buffer_model.proofs.Minted.{adds_none, adds_at_most, same_on, adds_on}
 use Rattle.buffer_model.proofs.Clones.{clone_keeps_totals}
 use Rattle.std.specs.List.{AllZip}
 use Rattle.iobuf_chain.specs.Accounts.{held_by, answered}
@@ -17,8 +17,8 @@ use Rattle.iobuf_chain.proofs.Lists.{drop_there, take-set, drop-set, set-set}
 use Rattle.iobuf_chain.proofs.Bytes.{bytes_of-append, sum_more, sum_within, sum-set, sum-cut}
 use Rattle.iobuf_chain.proofs.Accounts.{swaps_nodes, same_nodes, held_by-append}
 use Rattle.iobuf_chain.proofs.Rejoined.{regains_keep, regains_at}
-use Rattle.iobuf_chain.specs.Copies.{HasData, HasNumber, WithData, CopiesNoData, IsHeavy, IsStout, IsShareable}
-use Rattle.iobuf_chain.proofs.Copied.{each_append, each_before, each_behind, each_map, own_numbers, clone_number, heavy_is_stout, cut_of_heavy}
+use Rattle.iobuf_chain.specs.Copies.{HasData, HasStorage, WithData, CopiesNoData, IsHeavy, IsStout, IsShareable}
+use Rattle.iobuf_chain.proofs.Copied.{each_append, each_before, each_behind, each_map, own_storages, storage_of_same, clone_storage, heavy_is_stout, cut_of_heavy}
 use Rattle.iobuf_chain.proofs.TrimmedEnds.{drop-joined, take-joined}
 use Rattle.chain_unshare.specs.Splits.{StopsAt, IsRun, IsSide, SplitsBetween, SplitsNode, SplitsAt}
 
@@ -146,28 +146,28 @@ module _ {O : Type 0} where
       let both = splits_bytes n old new before front rest is in
       ap (λ bs. bs ++ bytes_of rest) both.0 ∙ ap (λ bs. take n (bytes_of before) ++ bs) both.1 ∙ take-append-drop n (bytes_of before)
 
-  side_keeps : (old new : Numbers) (nodes side : List (Segment O)) → IsSide old new nodes side → KeepsTotalsBelow (length old) (held_by nodes) (held_by side)
+  side_keeps : (old new : Numbers) (nodes side : List (Segment O)) → IsSide old new nodes side → KeepsTotalsBeside old new (held_by nodes) (held_by side)
   side_keeps old new nodes side is = elim is [
-    | inl same ↦ keeps_below (length old) _ _ (same_nodes _ _ (sym same.0))
+    | inl same ↦ keeps_any old new _ _ (same_nodes _ _ (sym same.0))
     | inr none ↦
-        let made : KeepsTotalsBelow (length old) [] (held_by (between_rooms 0 0 [] none.1.share ∷ [])) = keeps_made old new own none.1.share none.1.storage in
+        let made : KeepsTotalsBeside old new [] (held_by (between_rooms 0 0 [] none.1.share ∷ [])) = keeps_made old new own none.1.share none.1.storage in
         λ n h.
         let P : List (Segment O) → Type 0 = λ xs. Keeps (held_by xs) (held_by side) n in
         let Q : List (Segment O) → Type 0 = λ xs. Keeps [] (held_by xs) n in
         subst P (sym none.0) (subst Q (sym none.1.nodes_are) (made n h))
   ]
 
-  side_grows : (old new : Numbers) (nodes side : List (Segment O)) → IsSide old new nodes side → length old ≤ length new
-  side_grows old new nodes side is = elim is [
-    | inl same ↦ let e = ap length same.2 in omega (arith, e)
-    | inr none ↦ let e = none.1.mint.1 in omega (arith, e)
+  side_on : (old new : Numbers) (nodes side : List (Segment O)) → IsSide old new nodes side → NumbersOn old new
+  side_on old new nodes side is = elim is [
+    | inl same ↦ same_on old new same.2
+    | inr none ↦ adds_on 1 old new none.1.mint
   ]
 
-  pub keeps_trans : (n : ℕ) (xs ys zs : List (Stake O)) → Keeps xs ys n → Keeps ys zs n → Keeps xs zs n
+  pub keeps_trans : (n : Storage) (xs ys zs : List (Stake O)) → Keeps xs ys n → Keeps ys zs n → Keeps xs zs n
   keeps_trans n xs ys zs p q = record { total = q.total ∙ p.total; way = λ kind is. q.way kind (p.way kind is) }
 
   -- two parts that keep totals, and change places
-  parts_keep : (n : ℕ) (run past front rest : List (Segment O)) → Keeps (held_by run) (held_by front) n → Keeps (held_by past) (held_by rest) n
+  parts_keep : (n : Storage) (run past front rest : List (Segment O)) → Keeps (held_by run) (held_by front) n → Keeps (held_by past) (held_by rest) n
       → Keeps (held_by (run ++ past)) (held_by (rest ++ front)) n
   parts_keep n run past front rest p q =
       keeps_trans n _ _ _ (keeps_equal _ _ (held_by-append run past) n)
@@ -175,16 +175,17 @@ module _ {O : Type 0} where
       (keeps_trans n _ _ _ (keeps_equal _ _ (sym (held_by-append front rest)) n) (swaps_nodes [] front rest n)))
 
   pub between_keeps : (old new : Numbers) (before run past front rest : List (Segment O)) → before ≡ run ++ past → SplitsBetween old new run past front rest
-      → KeepsTotalsBelow (length old) (held_by before) (held_by (rest ++ front))
+      → KeepsTotalsBeside old new (held_by before) (held_by (rest ++ front))
   between_keeps old new before run past front rest parts is n h =
-      let low = side_grows old is.mid run front is.front_side in
+      let first = side_on old is.mid run front is.front_side in
+      let next = side_on is.mid new past rest is.rest_side in
       let P : List (Segment O) → Type 0 = λ xs. Keeps (held_by xs) (held_by (rest ++ front)) n in
       subst P (sym parts)
-      (parts_keep n run past front rest (side_keeps old is.mid run front is.front_side n h)
-      (side_keeps is.mid new past rest is.rest_side n (omega (arith, low))))
+      (parts_keep n run past front rest (side_keeps old is.mid run front is.front_side n (apart_first old is.mid new n next h))
+      (side_keeps is.mid new past rest is.rest_side n (apart_then old is.mid new n first h)))
 
   pub node_keeps : (k : ℕ) (old new : Numbers) (before run past front rest : List (Segment O)) → before ≡ run ++ past → SplitsNode k old new run past front rest
-      → KeepsTotalsBelow (length old) (held_by before) (held_by (rest ++ front))
+      → KeepsTotalsBeside old new (held_by before) (held_by (rest ++ front))
   node_keeps k old new before run past front rest parts s n h =
       let short : Segment O = trimmed_end (length s.node.window - k) s.clone in
       let long : Segment O = trimmed_start k s.left in
@@ -217,12 +218,20 @@ module _ {O : Type 0} where
 
   -- a chain stays, and an empty one may be made
   pub empty_beside : {E : Type 0} (old new : Numbers) (xs : List (Segment O)) (r : Result (List (Segment O)) E) → IfOk r (λ c. IsEmptyChain old new c)
-      → KeepsTotalsBelow (length old) (held_by xs) (held_by (xs ++ answered r))
+      → KeepsTotalsBeside old new (held_by xs) (held_by (xs ++ answered r))
   empty_beside old new xs (Ok c) made n h = parts_keep n [] xs c xs (side_keeps old new [] c (inr (refl, made)) n h) (keeps_same (held_by xs) n)
   empty_beside old new xs (Err e) made n h = same_nodes _ _ (sym (append-nil xs)) n
 
-  pub refused_keeps : (m : ℕ) (xs ys : List (Segment O)) → AllZip Regains xs ys → KeepsTotalsBelow m (held_by xs) (held_by (ys ++ []))
-  refused_keeps m xs ys all n h = keeps_trans n _ _ _ (regains_keep xs ys all n) (same_nodes _ _ (sym (append-nil ys)) n)
+  -- a chain leaves whole, and an empty one stands in its place
+  pub empty_instead : (old new : Numbers) (xs made left gone : List (Segment O)) → IsEmptyChain old new made → left ≡ made → gone ≡ xs
+      → KeepsTotalsBeside old new (held_by xs) (held_by (left ++ gone))
+  empty_instead old new xs made left gone is stays goes n h =
+      keeps_trans n _ _ _ (same_nodes _ _ (sym (append-nil xs)) n)
+      (keeps_trans n _ _ _ (parts_keep n xs [] xs made (keeps_same (held_by xs) n) (side_keeps old new [] made (inr (refl, is)) n h))
+      (same_nodes _ _ (ap (λ ys. ys ++ xs) (sym stays) ∙ ap (λ ys. left ++ ys) (sym goes)) n))
+
+  pub refused_keeps : (a b : Numbers) (xs ys : List (Segment O)) → AllZip Regains xs ys → KeepsTotalsBeside a b (held_by xs) (held_by (ys ++ []))
+  refused_keeps a b xs ys all n h = keeps_trans n _ _ _ (regains_keep xs ys all n) (same_nodes _ _ (sym (append-nil ys)) n)
 
   -- a node in the place of another, and back
   pub back_in : (i : ℕ) (xs mid new : List (Segment O)) (w x y : Segment O) → slice_get xs i ≡ Some x → mid ≡ slice_set xs i w → new ≡ slice_set mid i y
@@ -320,19 +329,16 @@ module _ {O : Type 0} where
             )
       ]
 
-  numbered : (had : List (Segment O)) (s t : Share O) → t.number ≡ s.number → HasNumber s.number had → HasNumber t.number had
-  numbered had s t e h = let P : Option ℕ → Type 0 = λ n. HasNumber n had in subst P (sym e) h
-
   -- where each node with data can be shared, none of its data is copied
   pub splits_copy_nothing : (n : ℕ) (old new : Numbers) (before front rest : List (Segment O)) → SplitsAt n old new before front rest
       → WithData IsShareable before → CopiesNoData before front × CopiesNoData before rest
   splits_copy_nothing n old new before front rest is may =
       let run : List (Segment O) = is.run in
       let past : List (Segment O) = is.past in
-      let Q : Segment O → Type 0 = λ s. HasNumber s.share.number before in
+      let Q : Segment O → Type 0 = λ s. HasStorage s.share before in
       let R : List (Segment O) → Type 0 = λ xs. CopiesNoData before xs in
       let M : List (Segment O) → Type 0 = λ xs. WithData IsShareable xs in
-      let all : CopiesNoData before (run ++ past) = subst R is.is_run.parts (own_numbers before) in
+      let all : CopiesNoData before (run ++ past) = subst R is.is_run.parts (own_storages before) in
       let first : CopiesNoData before run = each_before _ run past all in
       let second : CopiesNoData before past = each_behind _ run past all in
       elim is.parts [
@@ -346,10 +352,10 @@ module _ {O : Type 0} where
             let some : HasData s.node = omega (arith, low) in
             let can : WithData IsShareable (s.node ∷ s.behind) = subst M s.past_is (each_behind _ run past (subst M is.is_run.parts may)) in
             let both : CopiesNoData before (s.node ∷ s.behind) = subst R s.past_is second in
-            let same = clone_number old new s.node s.left s.clone s.clones (can.0 some) in (
+            let same = clone_storage old new s.node s.left s.clone s.clones (can.0 some) in (
               subst R (sym s.front_is)
                   (each_append _ run (trimmed_end (length s.node.window - k) s.clone ∷ []) first
-                  ((λ data_is. numbered before s.node.share s.clone.share same.0 (both.0 some)), tt)),
-              subst R (sym s.rest_is) ((λ data_is. numbered before s.node.share s.left.share same.1 (both.0 some)), both.1),
+                  ((λ data_is. storage_of_same s.clone.share s.node.share before same.0 (both.0 some)), tt)),
+              subst R (sym s.rest_is) ((λ data_is. storage_of_same s.left.share s.node.share before same.1 (both.0 some)), both.1),
             )
       ]

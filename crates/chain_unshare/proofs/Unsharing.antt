@@ -6,11 +6,11 @@ use Rattle.std.proofs.Math.Seq.{take-add}
 use Rattle.share_count.specs.Weights.{full}
 use Rattle.buffer_model.specs.Share.{Share, IsWhole, own}
 use Rattle.buffer_model.specs.Segment.{Segment, bytes_of, hold_of}
-use Rattle.buffer_model.specs.Stake.{held, Keeps, KeepsTotals, KeepsTotalsBelow}
-use Rattle.buffer_model.specs.Minted.{Numbers, AddsAtMost}
+use Rattle.buffer_model.specs.Stake.{held, Keeps, KeepsTotals, KeepsTotalsBeside}
+use Rattle.buffer_model.specs.Minted.{Numbers, NumbersOn, AddsAtMost}
 use Rattle.buffer_model.specs.Clones.{MovesOut}
-use Rattle.buffer_model.proofs.Totals.{keeps_same, keeps_equal, keeps_below, keeps-append, keeps_beside}
-use Rattle.buffer_model.proofs.Minted.{adds_none, adds_at_most, adds_then}
+use Rattle.buffer_model.proofs.Totals.{keeps_same, keeps_equal, keeps_any, keeps-append, keeps_beside, apart_first, apart_then}
+use Rattle.buffer_model.proofs.Minted.{adds_none, adds_at_most, adds_then, same_on, adds_on, on_then}
 use Rattle.storage.specs.declared.back.Back.{Back}
 use Rattle.storage.specs.Back.{GivesBack, stakes_of, stakes_in}
 use Rattle.iobuf_chain.specs.Accounts.{held_by}
@@ -214,9 +214,15 @@ module _ {O : Type 0} where
       = elim is.1 [ inl s ↦ ap (λ (t : Segment O). t.window) s.1 | inr m ↦ ap (λ (t : Segment O). t.window) m.1.lists ] in
       ap (λ w. w ++ bytes_of ys) same ∙ ap (λ bs. x.window ++ bs) (unshares_bytes is.0 new xs ys is.2)
 
-  one_grows : (old new : Numbers) (x y : Segment O) → UnsharesOne old new x y → length old ≤ length new
-  one_grows old new x y (inl s) = let e = ap length s.2 in omega (arith, e)
-  one_grows old new x y (inr m) = let e = m.1.mint.1 in omega (arith, e)
+  one_on : (old new : Numbers) (x y : Segment O) → UnsharesOne old new x y → NumbersOn old new
+  one_on old new x y (inl s) = same_on old new s.2
+  one_on old new x y (inr m) = adds_on 1 old new m.1.mint
+
+  each_on : (old new : Numbers) (xs ys : List (Segment O)) → UnsharesEach old new xs ys → NumbersOn old new
+  each_on old new [] [] is = same_on old new is
+  each_on old new [] (y ∷ ys) is = absurd is
+  each_on old new (x ∷ xs) [] is = absurd is
+  each_on old new (x ∷ xs) (y ∷ ys) is = on_then old is.0 new (one_on old is.0 x y is.1) (each_on is.0 new xs ys is.2)
 
   -- one node stands behind others
   goes_behind : (x : Segment O) (ys gone : List (Segment O)) → KeepsTotals (held_by (x ∷ (ys ++ gone))) (held_by (ys ++ (x ∷ gone)))
@@ -225,14 +231,15 @@ module _ {O : Type 0} where
       (keeps_trans n _ _ _ (same_nodes _ _ (append_assoc ys gone (x ∷ [])) n) (swaps_nodes ys gone (x ∷ []) n))
 
   unshares_keep : (old new : Numbers) (xs ys : List (Segment O)) → UnsharesEach old new xs ys
-      → KeepsTotalsBelow (length old) (held_by xs) (held_by (ys ++ shared_in xs))
-  unshares_keep old new [] [] is = keeps_below (length old) [] [] (keeps_same [])
+      → KeepsTotalsBeside old new (held_by xs) (held_by (ys ++ shared_in xs))
+  unshares_keep old new [] [] is = keeps_any old new [] [] (keeps_same [])
   unshares_keep old new [] (y ∷ ys) is = absurd is
   unshares_keep old new (x ∷ xs) [] is = absurd is
   unshares_keep old new (x ∷ xs) (y ∷ ys) is = λ n h.
-      let low = one_grows old is.0 x y is.1 in
+      let first = one_on old is.0 x y is.1 in
+      let next = each_on is.0 new xs ys is.2 in
       let gone : List (Segment O) = shared_in xs in
-      let more : Keeps (held_by xs) (held_by (ys ++ gone)) n = unshares_keep is.0 new xs ys is.2 n (omega (arith, low, h)) in
+      let more : Keeps (held_by xs) (held_by (ys ++ gone)) n = unshares_keep is.0 new xs ys is.2 n (apart_then old is.0 new n first h) in
       let beside : Keeps (held_by (x ∷ xs)) (held_by (x ∷ (ys ++ gone))) n
       = keeps-append n (held x.share ∷ []) (held_by xs) (held x.share ∷ []) (held_by (ys ++ gone)) (keeps_same (held x.share ∷ []) n) more in
       elim is.1 [
@@ -242,13 +249,13 @@ module _ {O : Type 0} where
         | inr m ↦
             keeps_trans n _ _ _ beside
             (keeps_trans n _ _ _ (goes_behind x ys gone n)
-            (keeps_trans n _ _ _ (keeps_beside old is.0 own y.share _ _ m.1.storage (keeps_same (held_by (ys ++ (x ∷ gone)))) n h)
+            (keeps_trans n _ _ _ (keeps_beside old is.0 own y.share _ _ m.1.storage (keeps_same (held_by (ys ++ (x ∷ gone)))) n (apart_first old is.0 new n next h))
             (same_nodes (y ∷ (ys ++ (x ∷ gone))) _ (ap (λ zs. y ∷ (ys ++ zs)) (sym (shared_other x xs m.0))) n)))
       ]
 
   pub unshared_totals : (old new : Numbers) (xs ys : List (Segment O)) (backs given : List (Back O)) → UnsharesEach old new xs ys
       → KeepsTotals (held_by (shared_in xs)) (stakes_in backs) → given ≡ backs
-      → KeepsTotalsBelow (length old) (held_by xs) (held_by ys ++ stakes_in given)
+      → KeepsTotalsBeside old new (held_by xs) (held_by ys ++ stakes_in given)
   unshared_totals old new xs ys backs given is keeps e n h =
       keeps_trans n _ _ _ (unshares_keep old new xs ys is n h)
       (keeps_trans n _ _ _ (keeps_equal _ _ (held_by-append ys (shared_in xs)) n)
@@ -256,10 +263,10 @@ module _ {O : Type 0} where
       (keeps-append n (held_by ys) (held_by (shared_in xs)) (held_by ys) (stakes_in backs) (keeps_same (held_by ys) n) (keeps n))
       (keeps_equal _ _ (ap (λ bs. held_by ys ++ stakes_in bs) (sym e)) n)))
 
-  pub refused_totals : {E : Type 0} (m : ℕ) (xs ys : List (Segment O)) (r : Result (List (Back O)) E) → ys ≡ xs → IsErr r
-      → KeepsTotalsBelow m (held_by xs) (held_by ys ++ returned r)
-  refused_totals m xs ys (Ok backs) e err = absurd (let never : false ≡ true = err in cc never)
-  refused_totals m xs ys (Err x) e err = λ n h. keeps_equal _ _ (ap (λ zs. held_by zs) (sym e) ∙ sym (append-nil (held_by ys))) n
+  pub refused_totals : {E : Type 0} (a b : Numbers) (xs ys : List (Segment O)) (r : Result (List (Back O)) E) → ys ≡ xs → IsErr r
+      → KeepsTotalsBeside a b (held_by xs) (held_by ys ++ returned r)
+  refused_totals a b xs ys (Ok backs) e err = absurd (let never : false ≡ true = err in cc never)
+  refused_totals a b xs ys (Err x) e err = λ n h. keeps_equal _ _ (ap (λ zs. held_by zs) (sym e) ∙ sym (append-nil (held_by ys))) n
 
 module _ {O : Type 0} (runs : O → ℕ) (last : O → Option (List ℕ)) where
   -- copies take the places of the first i nodes, where those aren't whole: the nodes before and now, all copies and

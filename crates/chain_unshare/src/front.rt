@@ -3,7 +3,7 @@ ghost use Rattle.std.specs.Prelude.{◌≡◌, ◌+◌, ◌-◌, ◌≤◌, ◌<
 ghost use Rattle.std.specs.List.{AllZip};
 ghost use Rattle.buffer_model.specs.Segment.{Segment, bytes_of};
 ghost use Rattle.buffer_model.specs.Minted.{AddsAtMost};
-ghost use Rattle.buffer_model.specs.Stake.{KeepsTotalsBelow};
+ghost use Rattle.buffer_model.specs.Stake.{KeepsTotalsBeside};
 ghost use Rattle.iobuf_chain.specs.Accounts.{held_by, answered};
 ghost use Rattle.iobuf_chain.specs.Copies.{CopiesNoData, IsHeavy, IsShareable, IsStout, WithData};
 ghost use Rattle.iobuf_chain.specs.Cuts.{IsShortBeyond};
@@ -35,7 +35,7 @@ pub fn split<'a, O: Release>(
     ensures refused { OnErr result (AllZip Regains c.old c.new) }
     ensures unchanged { length (bytes_of c.old) < n → (c.new ≡ c.old) × (mint.new ≡ mint.old) }
     ensures mint { AddsAtMost 1 mint.old mint.new }
-    ensures totals { KeepsTotalsBelow (length mint.old) (held_by c.old) (held_by (c.new ++ answered result)) }
+    ensures totals { KeepsTotalsBeside mint.old mint.new (held_by c.old) (held_by (c.new ++ answered result)) }
     ensures heavy { WithData IsHeavy c.old → IfOk result (λ front. WithData IsStout front × WithData IsHeavy c.new) }
     ensures copies { WithData IsShareable c.old
         → IfOk result (λ front. CopiesNoData c.old front × CopiesNoData c.old c.new) }
@@ -87,7 +87,7 @@ fn split_between<'a, O: Release>(
     ensures parts { IfOk result (λ front. SplitsBetween mint.old mint.new (take i c.old) (drop i c.old) front c.new) }
     ensures refused { OnErr result (c.new ≡ c.old) }
     ensures mint { AddsAtMost 1 mint.old mint.new }
-    ensures totals { KeepsTotalsBelow (length mint.old) (held_by c.old) (held_by (c.new ++ answered result)) }
+    ensures totals { KeepsTotalsBeside mint.old mint.new (held_by c.old) (held_by (c.new ++ answered result)) }
 {
     if i == 0 {
         return empty(alloc, mint);
@@ -125,7 +125,7 @@ fn split_node<'a, O: Release>(
     ensures parts { IfOk result (λ front. SplitsNode k mint.old mint.new (take i c.old) (drop i c.old) front c.new) }
     ensures refused { OnErr result (AllZip Regains c.old c.new) }
     ensures mint { AddsAtMost 1 mint.old mint.new }
-    ensures totals { KeepsTotalsBelow (length mint.old) (held_by c.old) (held_by (c.new ++ answered result)) }
+    ensures totals { KeepsTotalsBeside mint.old mint.new (held_by c.old) (held_by (c.new ++ answered result)) }
 {
     if i == 0 {
         return match c.cut_first(alloc, k, mint) {
@@ -149,7 +149,7 @@ fn split_later<'a, O: Release>(
     ensures parts { IfOk result (λ front. SplitsNode k mint.old mint.new (take i c.old) (drop i c.old) front c.new) }
     ensures refused { OnErr result (AllZip Regains c.old c.new) }
     ensures mint { AddsAtMost 1 mint.old mint.new }
-    ensures totals { KeepsTotalsBelow (length mint.old) (held_by c.old) (held_by (c.new ++ answered result)) }
+    ensures totals { KeepsTotalsBeside mint.old mint.new (held_by c.old) (held_by (c.new ++ answered result)) }
 {
     let _had = c.length();
     let mut node = c.swap_node(i, IoBuf::wrap(&[]));

@@ -3,7 +3,7 @@ ghost use Rattle.std.specs.Prelude.{◌≡◌, ◌+◌, ◌≤◌, ◌<◌, List
 ghost use Rattle.buffer_model.specs.Share.{IsAlone, claimed};
 ghost use Rattle.buffer_model.specs.Segment.{Segment, bytes_of, block_of, rewritten, shared_as};
 ghost use Rattle.buffer_model.specs.Minted.{Adds, AddsAtMost};
-ghost use Rattle.buffer_model.specs.Stake.{held, KeepsTotals, KeepsTotalsBelow};
+ghost use Rattle.buffer_model.specs.Stake.{held, KeepsTotals, KeepsTotalsBeside};
 ghost use Rattle.storage.specs.Back.{stakes_in};
 ghost use Rattle.iobuf_chain.specs.Accounts.{held_by};
 ghost use Rattle.iobuf_chain.specs.Cuts.{IsShortBeyond};
@@ -33,7 +33,7 @@ pub fn coalesce<'a, O: Release>(
     ensures refused { OnErr result ((c.new ≡ c.old) × (mint.new ≡ mint.old)) }
     ensures bytes { bytes_of c.new ≡ bytes_of c.old }
     ensures mint { AddsAtMost 1 mint.old mint.new }
-    ensures totals { KeepsTotalsBelow (length mint.old) (held_by c.old) (held_by c.new ++ returned result) }
+    ensures totals { KeepsTotalsBeside mint.old mint.new (held_by c.old) (held_by c.new ++ returned result) }
 {
     let count = c.elements();
     if count == 1 {
@@ -65,7 +65,7 @@ pub fn gather<'a, O: Release>(
     ensures first { OnOk result (n ≤ length (bytes_of (take 1 c.new))) }
     ensures unchanged { length (bytes_of c.old) < n → mint.new ≡ mint.old }
     ensures mint { AddsAtMost 1 mint.old mint.new }
-    ensures totals { KeepsTotalsBelow (length mint.old) (held_by c.old) (held_by c.new ++ returned result) }
+    ensures totals { KeepsTotalsBeside mint.old mint.new (held_by c.old) (held_by c.new ++ returned result) }
 {
     let had = c.length();
     if had < n {
@@ -91,7 +91,7 @@ pub fn clone_coalesced<'a, O: Release>(
 ) -> Result<IoBuf<'static, O>, AllocError>
     ensures node { IfOk result (Joins mint.old mint.new c.now) }
     ensures refused { OnErr result (mint.new ≡ mint.old) }
-    ensures totals { IfOk result (λ n. KeepsTotalsBelow (length mint.old) [] (held n.share ∷ [])) }
+    ensures totals { IfOk result (λ n. KeepsTotalsBeside mint.old mint.new [] (held n.share ∷ [])) }
 {
     join_first(c, c.elements(), alloc, mint)
 }

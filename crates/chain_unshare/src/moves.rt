@@ -4,7 +4,7 @@ ghost use Rattle.std.specs.VecDeque.{deque_capacity};
 ghost use Rattle.buffer_model.specs.Share.{IsWhole};
 ghost use Rattle.buffer_model.specs.Segment.{Segment, bytes_of};
 ghost use Rattle.buffer_model.specs.Minted.{AddsAtMost};
-ghost use Rattle.buffer_model.specs.Stake.{KeepsTotals, KeepsTotalsBelow};
+ghost use Rattle.buffer_model.specs.Stake.{KeepsTotals, KeepsTotalsBeside};
 ghost use Rattle.storage.specs.Back.{stakes_in};
 ghost use Rattle.iobuf_chain.specs.Accounts.{held_by};
 ghost use Rattle.iobuf_chain.specs.Lists.{Each};
@@ -33,7 +33,7 @@ pub fn unshare<'a, O: Release>(
     ensures refused { OnErr result (c.new ≡ c.old) }
     ensures bytes { bytes_of c.new ≡ bytes_of c.old }
     ensures mint { AddsAtMost (length (shared_in c.old)) mint.old mint.new }
-    ensures totals { KeepsTotalsBelow (length mint.old) (held_by c.old) (held_by c.new ++ returned result) }
+    ensures totals { KeepsTotalsBeside mint.old mint.new (held_by c.old) (held_by c.new ++ returned result) }
 {
     let count = shared_count(c);
     if count == 0 {

@@ -34,7 +34,7 @@ pub fn decode<D: Decoder>(
     'pieces: for bytes in pieces {
         feed_copy(alloc, &mut decoder, bytes, &mut haul, &mut mint)?;
     }
-    decoder.end(alloc, &mut haul, &mut mint)?;
+    decoder.end(&mut haul)?;
     Ok(haul.units)
 }
 

@@ -2,8 +2,9 @@
 use Rattle.std.proofs.Common.{◌≡◌, ℕ, ◌-◌, true, false, None, Result, Ok, Err, OnOk, List, [], ◌++◌, length, ap, sym, ◌∙◌, append_assoc, append-nil, arith}
 use Rattle.storage.specs.declared.release.NoOwner.{NoOwner}
 use Rattle.buffer_model.specs.Segment.{Segment}
-use Rattle.buffer_model.specs.Stake.{Stake, KeepsTotals, KeepsTotalsBelow}
-use Rattle.buffer_model.proofs.Totals.{keeps_same, keeps_equal, keeps_then, keeps_below, keeps_below_then, keeps-append}
+use Rattle.buffer_model.specs.Stake.{Stake, KeepsTotals, KeepsTotalsBeside}
+use Rattle.buffer_model.specs.Minted.{Numbers}
+use Rattle.buffer_model.proofs.Totals.{keeps_same, keeps_equal, keeps_then, keeps-append}
 use Rattle.iobuf_chain.specs.Accounts.{held_by}
 use Rattle.iobuf_chain.proofs.Accounts.{held_by-append}
 use Rattle.frame_head.specs.declared.codecs.Codec.{Codec}
@@ -64,16 +65,18 @@ ended_longer c checked s r =
     (e.0 ++ last, ap (λ w. w ++ last) e.1 ∙ append_assoc (units c s) e.0 last)
 
 -- nodes that wait beside those that a call takes stay as they are
-pub aside : (m : ℕ) (xs ys zs : List (Segment NoOwner)) (h k : List (Stake NoOwner)) → KeepsTotalsBelow m (held_by xs ++ h) (held_by ys ++ k) → KeepsTotalsBelow m (held_by (xs ++ zs) ++ h) (held_by (ys ++ zs) ++ k)
-aside m xs ys zs h k keeps =
+pub aside : (a b : Numbers) (xs ys zs : List (Segment NoOwner)) (h k : List (Stake NoOwner)) → KeepsTotalsBeside a b (held_by xs ++ h) (held_by ys ++ k) → KeepsTotalsBeside a b (held_by (xs ++ zs) ++ h) (held_by (ys ++ zs) ++ k)
+aside a b xs ys zs h k keeps n lt =
     let z : List (Stake NoOwner) = held_by zs in
     let to : KeepsTotals (held_by (xs ++ zs) ++ h) (z ++ (held_by xs ++ h)) =
     keeps_then _ _ _ (keeps_equal _ _ (ap (λ w. w ++ h) (held_by-append xs zs) ∙ append_assoc (held_by xs) z h))
     (keeps_then _ _ _ (behind_first (held_by xs) z h) (keeps_equal _ _ (append_assoc z (held_by xs) h))) in
     let from : KeepsTotals (z ++ (held_by ys ++ k)) (held_by (ys ++ zs) ++ k) =
     keeps_then _ _ _ (behind_first z (held_by ys) k) (keeps_equal _ _ (ap (λ w. w ++ k) (sym (held_by-append ys zs)))) in
-    let mid : KeepsTotalsBelow m (z ++ (held_by xs ++ h)) (z ++ (held_by ys ++ k)) = λ n lt. keeps-append n z (held_by xs ++ h) z (held_by ys ++ k) (keeps_same z n) (keeps n lt) in
-    keeps_below_then m m _ _ _ (omega arith) (keeps_below m _ _ to) (keeps_below_then m m _ _ _ (omega arith) mid (keeps_below m _ _ from))
+    let mid = keeps-append n z (held_by xs ++ h) z (held_by ys ++ k) (keeps_same z n) (keeps n lt) in record {
+      total = (from n).total ∙ mid.total ∙ (to n).total;
+      way = λ kind is. (from n).way kind (mid.way kind ((to n).way kind is));
+    }
 
 pub ended_ok : {U : Type 0} (old new : Decoding) (r : Result U FeedFault) → Ended old new r → OnOk r ((old.dead ≡ false) × (new ≡ record old { kept = []; dead = true }))
 ended_ok old new (Ok u) is = is

@@ -4,13 +4,14 @@ use Rattle.std.specs.Result.{is_err}
 use Rattle.std.proofs.lemmas.List.{take_all, take_at, drop_at}
 use Rattle.storage.specs.declared.release.NoOwner.{NoOwner}
 use Rattle.buffer_model.specs.Segment.{Segment, bytes_of}
-use Rattle.buffer_model.specs.Stake.{Stake, KeepsTotals, KeepsTotalsBelow}
-use Rattle.buffer_model.proofs.Totals.{keeps_same, keeps_equal, keeps_then, keeps-append, keeps_below_then}
+use Rattle.buffer_model.specs.Stake.{Stake, KeepsTotals, KeepsTotalsBeside}
+use Rattle.buffer_model.specs.Minted.{Numbers}
+use Rattle.buffer_model.proofs.Totals.{keeps_same, keeps_equal, keeps_then, keeps-append}
 use Rattle.iobuf_chain.specs.Accounts.{held_by}
 use Rattle.iobuf_chain.specs.Copies.{WithData, CopiesNoData, IsHeavy, IsStout}
 use Rattle.iobuf_chain.proofs.Accounts.{held_by-append}
 use Rattle.iobuf_chain.proofs.Bytes.{bytes_of-append}
-use Rattle.iobuf_chain.proofs.Copied.{each_before, each_behind, each_map, own_numbers, heavy_is_stout}
+use Rattle.iobuf_chain.proofs.Copied.{each_before, each_behind, each_map, own_storages, heavy_is_stout}
 use Rattle.frame_head.specs.declared.codecs.Codec.{Codec}
 use Rattle.frame_head.specs.Codecs.{last_unit, fault_of}
 use Rattle.frame_head.specs.Units.{units}
@@ -60,14 +61,10 @@ kept_length kept None = omega arith
 kept_length kept (Some piece) = omega (arith, ap length (bytes_of-append (nodes_if kept) piece), length-append (bytes_of (nodes_if kept)) (bytes_of piece))
 
 -- nothing of a piece was taken, and it is kept behind the nodes that are kept
-pub refused_totals : (m : ℕ) (kept now : Option (List (Segment NoOwner))) (piece refused : List (Segment NoOwner)) (h : Haul) → now ≡ kept → refused ≡ piece
-    → KeepsTotalsBelow m (held_by (nodes_if kept ++ piece) ++ hauled h) (held_by (all_kept now (Some refused)) ++ hauled h)
-refused_totals m kept now piece refused h stay same n lt =
+pub refused_totals : (a b : Numbers) (kept now : Option (List (Segment NoOwner))) (piece refused : List (Segment NoOwner)) (h : Haul) → now ≡ kept → refused ≡ piece
+    → KeepsTotalsBeside a b (held_by (nodes_if kept ++ piece) ++ hauled h) (held_by (all_kept now (Some refused)) ++ hauled h)
+refused_totals a b kept now piece refused h stay same n lt =
     keeps_equal _ _ (ap (λ w. held_by (nodes_if w ++ piece) ++ hauled h) (sym stay) ∙ ap (λ w. held_by (nodes_if now ++ w) ++ hauled h) (sym same)) n
-
--- totals are kept, and then again
-pub totals_then : (m : ℕ) (xs ys zs : List (Stake NoOwner)) → KeepsTotalsBelow m xs ys → KeepsTotals ys zs → KeepsTotalsBelow m xs zs
-totals_then m xs ys zs p q = keeps_below_then m m xs ys zs (omega arith) p (λ n lt. q n)
 
 -- nodes that were kept, or handed over, went into the haul
 pub given_totals : (kept now : Option (List (Segment NoOwner))) (nodes : List (Segment NoOwner)) (h k : Haul) → kept ≡ Some nodes → now ≡ None → KeepsTotals (held_by nodes ++ hauled h) (hauled k)
@@ -82,10 +79,10 @@ pub fault_totals : (xs : List (Stake NoOwner)) (nodes : List (Segment NoOwner)) 
 fault_totals xs nodes k l keeps same = let P : List (Stake NoOwner) → Type 0 = λ w. KeepsTotals xs (held_by nodes ++ w) in subst P (sym same) keeps
 
 -- from the same nodes and the same haul
-pub start_totals : (m : ℕ) (nodes xs : List (Segment NoOwner)) (h k : Haul) (ys : List (Stake NoOwner)) → xs ≡ nodes → k ≡ h → KeepsTotalsBelow m (held_by xs ++ hauled k) ys → KeepsTotalsBelow m (held_by nodes ++ hauled h) ys
-start_totals m nodes xs h k ys same stay keeps =
-    let P : List (Segment NoOwner) → Type 0 = λ w. KeepsTotalsBelow m (held_by w ++ hauled h) ys in
-    let Q : Haul → Type 0 = λ w. KeepsTotalsBelow m (held_by xs ++ hauled w) ys in
+pub start_totals : (a b : Numbers) (nodes xs : List (Segment NoOwner)) (h k : Haul) (ys : List (Stake NoOwner)) → xs ≡ nodes → k ≡ h → KeepsTotalsBeside a b (held_by xs ++ hauled k) ys → KeepsTotalsBeside a b (held_by nodes ++ hauled h) ys
+start_totals a b nodes xs h k ys same stay keeps =
+    let P : List (Segment NoOwner) → Type 0 = λ w. KeepsTotalsBeside a b (held_by w ++ hauled h) ys in
+    let Q : Haul → Type 0 = λ w. KeepsTotalsBeside a b (held_by xs ++ hauled w) ys in
     subst P same (subst Q stay keeps)
 
 pub start_shares : (nodes xs after : List (Segment NoOwner)) (h k : Haul) (vs : List FrameUnit) → xs ≡ nodes → k ≡ h → WithData IsHeavy nodes → (WithData IsHeavy xs → SharesData xs after k.units.items vs) → SharesData nodes after h.units.items vs
@@ -128,7 +125,7 @@ beside_shares kept piece us vs heavy same =
     let P : List (Segment NoOwner) → Type 0 = λ w. CopiesNoData (kept ++ piece) w in record {
       added = [];
       haul = same ∙ sym (append-nil us);
-      copies = subst P (sym (append-nil kept)) (each_before _ kept piece (own_numbers (kept ++ piece)));
+      copies = subst P (sym (append-nil kept)) (each_before _ kept piece (own_storages (kept ++ piece)));
       heavy = each_before _ kept piece heavy;
       stout = tt;
     }
@@ -140,7 +137,7 @@ shares_last kept us vs at heavy more =
     let Q : List (Segment NoOwner) → Type 0 = λ w. WithData IsStout w in record {
       added = Frame at kept ∷ [];
       haul = more;
-      copies = subst P (sym (append-nil kept)) (own_numbers kept);
+      copies = subst P (sym (append-nil kept)) (own_storages kept);
       heavy = tt;
       stout = subst Q (sym (append-nil kept)) (each_map _ _ kept (λ s is some. heavy_is_stout s (is some)) heavy);
     }

@@ -8,3 +8,4 @@ mod Intakes
 mod Gathered
 mod Tight
 mod Inner
+mod Pieces

@@ -6,21 +6,21 @@ use Rattle.storage.specs.declared.back.Back.{Back}
 use Rattle.storage.specs.Back.{stakes_in}
 use Rattle.buffer_model.specs.Share.{Share, IsManaged, wrapped}
 use Rattle.buffer_model.specs.Segment.{Segment, bytes_of, whole_window}
-use Rattle.buffer_model.specs.Stake.{Stake, Keeps, KeepsTotals, KeepsTotalsBelow}
-use Rattle.buffer_model.specs.Minted.{Numbers}
-use Rattle.buffer_model.proofs.Totals.{keeps_same, keeps_equal, keeps_then, keeps_below, keeps_below_then, keeps-append, keeps_wrapped_in, keeps_wrapped_out, total-append, one_way-append, one_way-front, one_way-back}
+use Rattle.buffer_model.specs.Stake.{Stake, Keeps, KeepsTotals, KeepsTotalsBeside}
+use Rattle.buffer_model.specs.Minted.{Numbers, NumbersOn}
+use Rattle.buffer_model.proofs.Totals.{keeps_same, keeps_equal, keeps_then, keeps_any, keeps_beside_then, keeps-append, keeps_wrapped_in, keeps_wrapped_out, total-append, one_way-append, one_way-front, one_way-back}
 use Rattle.iobuf_chain.specs.Accounts.{answered, held_by}
-use Rattle.iobuf_chain.specs.Copies.{HasNumber, WithData, CopiesNoData, IsHeavy, IsStout, IsShareable}
+use Rattle.iobuf_chain.specs.Copies.{HasStorage, WithData, CopiesNoData, IsHeavy, IsStout, IsShareable}
 use Rattle.iobuf_chain.specs.Trims.{trimmed_front, trimmed_back}
 use Rattle.iobuf_chain.proofs.Accounts.{held_by-append}
-use Rattle.iobuf_chain.proofs.Copied.{each_append, each_before, each_behind, each_map, own_numbers, heavy_is_stout}
+use Rattle.iobuf_chain.proofs.Copied.{each_append, each_before, each_behind, each_map, own_storages, storage_of_same, heavy_is_stout}
 use Rattle.frame_rule.specs.declared.haul.Haul.{Haul}
 use Rattle.frame_rule.specs.declared.unit.FrameUnit.{FrameUnit}
 use Rattle.frame_rule.specs.declared.unit.FrameUnit.TheVariants.{Frame, Fault}
 use Rattle.frame_rule.specs.Units.{nodes_in}
-use Rattle.frame_rule.specs.Hauls.{Begins, CutsShare, GivesUp, Moves, NumbersOn, SameHaul, SharesData, hauled, stakes_back}
+use Rattle.frame_rule.specs.Hauls.{Begins, CutsShare, GivesUp, Moves, SameHaul, SharesData, hauled, stakes_back}
 
-nodes_in-append : (us vs : List FrameUnit) → nodes_in (us ++ vs) ≡ nodes_in us ++ nodes_in vs
+pub nodes_in-append : (us vs : List FrameUnit) → nodes_in (us ++ vs) ≡ nodes_in us ++ nodes_in vs
 nodes_in-append [] vs = refl
 nodes_in-append (Frame at chain ∷ us) vs = ap (λ ns. chain ++ ns) (nodes_in-append us vs) ∙ sym (append_assoc chain (nodes_in us) (nodes_in vs))
 nodes_in-append (Fault at kind ∷ us) vs = nodes_in-append us vs
@@ -101,10 +101,10 @@ fault_hauled h k u none us b =
     ∙ ap (λ w. held_by w ++ stakes_back h.back.items) (nodes_in-append h.units.items (u ∷ []) ∙ ap (λ w. nodes_in h.units.items ++ w) none ∙ append-nil (nodes_in h.units.items))
 
 -- nodes that were cut off went into the haul as something that has as much of each storage
-moved : (m : ℕ) (before after front : List (Segment NoOwner)) (x : List (Stake NoOwner)) (h k : List (Stake NoOwner))
-    → KeepsTotalsBelow m (held_by before) (held_by (after ++ front)) → KeepsTotals (held_by front) x → KeepsTotals (x ++ h) k
-    → KeepsTotalsBelow m (held_by before ++ h) (held_by after ++ k)
-moved m before after front x h k cut given taken n lt =
+moved : (a b : Numbers) (before after front : List (Segment NoOwner)) (x : List (Stake NoOwner)) (h k : List (Stake NoOwner))
+    → KeepsTotalsBeside a b (held_by before) (held_by (after ++ front)) → KeepsTotals (held_by front) x → KeepsTotals (x ++ h) k
+    → KeepsTotalsBeside a b (held_by before ++ h) (held_by after ++ k)
+moved a b before after front x h k cut given taken n lt =
     let apart : held_by (after ++ front) ++ h ≡ held_by after ++ (held_by front ++ h) = ap (λ w. w ++ h) (held_by-append after front) ∙ append_assoc (held_by after) (held_by front) h in
     let first : Keeps (held_by before ++ h) (held_by (after ++ front) ++ h) n = keeps-append n (held_by before) h (held_by (after ++ front)) h (cut n lt) (keeps_same h n) in
     let beside : KeepsTotals (held_by front ++ h) (x ++ h) = λ i. keeps-append i (held_by front) h x h (given i) (keeps_same h i) in
@@ -115,9 +115,9 @@ moved m before after front x h k cut given taken n lt =
     }
 
 -- nothing was cut off
-pub moves_none : (m n : Numbers) (before after : List (Segment NoOwner)) (h k : Haul) → KeepsTotalsBelow (length m) (held_by before) (held_by (after ++ [])) → NumbersOn m n → SameHaul h k → Moves m n before after h k
+pub moves_none : (m n : Numbers) (before after : List (Segment NoOwner)) (h k : Haul) → KeepsTotalsBeside m n (held_by before) (held_by (after ++ [])) → NumbersOn m n → SameHaul h k → Moves m n before after h k
 moves_none m n before after h k keeps numbers same = record {
-  totals = moved (length m) before after [] [] (hauled h) (hauled k) keeps (keeps_same []) (keeps_equal _ _ (sym (same_hauled h k same)));
+  totals = moved m n before after [] [] (hauled h) (hauled k) keeps (keeps_same []) (keeps_equal _ _ (sym (same_hauled h k same)));
   mint = numbers;
   back = begins_same h.back.items k.back.items same.1;
 }
@@ -127,19 +127,19 @@ moves_still m n nodes after h k number stay same =
     moves_none m n nodes after h k (λ i lt. keeps_equal (held_by nodes) (held_by (after ++ [])) (ap held_by (sym (append-nil nodes) ∙ ap (λ w. w ++ []) (sym stay))) i) (numbers_same m n number) same
 
 -- what was cut off is given back
-pub moves_back : (m n : Numbers) (before after front : List (Segment NoOwner)) (h k : Haul) (r : List (Back NoOwner)) → KeepsTotalsBelow (length m) (held_by before) (held_by (after ++ front)) → NumbersOn m n → KeepsTotals (held_by front) (stakes_in r)
+pub moves_back : (m n : Numbers) (before after front : List (Segment NoOwner)) (h k : Haul) (r : List (Back NoOwner)) → KeepsTotalsBeside m n (held_by before) (held_by (after ++ front)) → NumbersOn m n → KeepsTotals (held_by front) (stakes_in r)
     → k.units.items ≡ h.units.items → k.back.items ≡ h.back.items ++ r ∷ [] → Moves m n before after h k
 moves_back m n before after front h k r keeps numbers given u b = record {
-  totals = moved (length m) before after front (stakes_in r) (hauled h) (hauled k) keeps given (returned_hauled h k r u b);
+  totals = moved m n before after front (stakes_in r) (hauled h) (hauled k) keeps given (returned_hauled h k r u b);
   mint = numbers;
   back = record { added = r ∷ []; longer_is = b };
 }
 
 -- what was cut off is a frame
-pub moves_frame : (m n : Numbers) (before after front frame : List (Segment NoOwner)) (h k : Haul) (at : ℕ) → KeepsTotalsBelow (length m) (held_by before) (held_by (after ++ front)) → NumbersOn m n → KeepsTotals (held_by front) (held_by frame)
+pub moves_frame : (m n : Numbers) (before after front frame : List (Segment NoOwner)) (h k : Haul) (at : ℕ) → KeepsTotalsBeside m n (held_by before) (held_by (after ++ front)) → NumbersOn m n → KeepsTotals (held_by front) (held_by frame)
     → k.units.items ≡ h.units.items ++ Frame at frame ∷ [] → k.back.items ≡ h.back.items → Moves m n before after h k
 moves_frame m n before after front frame h k at keeps numbers given u b = record {
-  totals = moved (length m) before after front (held_by frame) (hauled h) (hauled k) keeps given (framed_hauled h k at frame u b);
+  totals = moved m n before after front (held_by frame) (hauled h) (hauled k) keeps given (framed_hauled h k at frame u b);
   mint = numbers;
   back = begins_same h.back.items k.back.items b;
 }
@@ -147,7 +147,7 @@ moves_frame m n before after front frame h k at keeps numbers given u b = record
 -- one part after another
 pub moves_further : (a b c : Numbers) (x y z : List (Segment NoOwner)) (h k l : Haul) → Moves a b x y h k → Moves b c y z k l → Moves a c x z h l
 moves_further a b c x y z h k l p q = record {
-  totals = keeps_below_then (length a) (length b) _ _ _ p.mint.1 p.totals q.totals;
+  totals = keeps_beside_then a b c _ _ _ p.mint q.mint p.totals q.totals;
   mint = numbers_further a b c p.mint q.mint;
   back = begins_further h.back.items k.back.items l.back.items p.back q.back;
 }
@@ -159,7 +159,7 @@ moves_from a b x y h k l same p = moves_further a a b x x y h k l (moves_still a
 -- a haul that gains nothing of a storage, and nothing that was handed back
 pub moves_on : (a b : Numbers) (x y : List (Segment NoOwner)) (h k l : Haul) → Moves a b x y h k → hauled l ≡ hauled k → l.back.items ≡ k.back.items → Moves a b x y h l
 moves_on a b x y h k l p same back = record {
-  totals = let P : List (Stake NoOwner) → Type 0 = λ w. KeepsTotalsBelow (length a) (held_by x ++ hauled h) (held_by y ++ w) in subst P (sym same) p.totals;
+  totals = let P : List (Stake NoOwner) → Type 0 = λ w. KeepsTotalsBeside a b (held_by x ++ hauled h) (held_by y ++ w) in subst P (sym same) p.totals;
   mint = p.mint;
   back = begins_further h.back.items k.back.items l.back.items p.back (begins_same k.back.items l.back.items back);
 }
@@ -187,14 +187,14 @@ gives_up_back nodes h k r given u b = record {
   totals = λ n. (keeps_then _ _ _ (λ i. keeps-append i (held_by nodes) (hauled h) (stakes_in r) (hauled h) (given i) (keeps_same (hauled h) i)) (returned_hauled h k r u b)) n;
 }
 
--- a number that nodes with data have, of which each has one that was there, was there
-number_there : (n : Option ℕ) (had has : List (Segment NoOwner)) → HasNumber n has → CopiesNoData had has → HasNumber n had
-number_there n had [] is copies = absurd is
-number_there n had (s ∷ ss) (inl is) copies = let P : Option ℕ → Type 0 = λ k. HasNumber k had in subst P is.1 (copies.0 is.0)
-number_there n had (s ∷ ss) (inr is) copies = number_there n had ss is copies.1
+-- a storage of nodes with data, of which each has one that was there, was there
+storage_there : (k : Share NoOwner) (had has : List (Segment NoOwner)) → HasStorage k has → CopiesNoData had has → HasStorage k had
+storage_there k had [] is copies = absurd is
+storage_there k had (s ∷ ss) (inl is) copies = storage_of_same k s.share had (sym is.1.0, sym is.1.1) (copies.0 is.0)
+storage_there k had (s ∷ ss) (inr is) copies = storage_there k had ss is copies.1
 
-copies_further : (xs ys zs : List (Segment NoOwner)) → CopiesNoData xs ys → CopiesNoData ys zs → CopiesNoData xs zs
-copies_further xs ys zs p q = each_map _ _ zs (λ s is some. number_there s.share.number xs ys (is some) p) q
+pub copies_further : (xs ys zs : List (Segment NoOwner)) → CopiesNoData xs ys → CopiesNoData ys zs → CopiesNoData xs zs
+copies_further xs ys zs p q = each_map _ _ zs (λ s is some. storage_there s.share xs ys (is some) p) q
 
 -- what holds of the shares of nodes with data still holds where bytes leave
 with_front : (P : Share NoOwner → Type 0) (n : ℕ) (ss : List (Segment NoOwner)) → WithData (λ s. P s.share) ss → WithData (λ s. P s.share) (trimmed_front n ss)
@@ -214,15 +214,15 @@ with_back P n (s ∷ ss) is =
 abbrev is_stout : Share NoOwner → Type 0
 is_stout sh = IsManaged sh × (1024 ≤ sh.weight)
 
-abbrev has_number : List (Segment NoOwner) → Share NoOwner → Type 0
-has_number had sh = HasNumber sh.number had
+abbrev has_storage : List (Segment NoOwner) → Share NoOwner → Type 0
+has_storage had sh = HasStorage sh had
 
 -- a cut that goes as a whole: nothing stays but a node without data
 pub cuts_whole : (had front rest : List (Segment NoOwner)) → WithData IsHeavy had → front ≡ had → rest ≡ whole_window [] wrapped ∷ [] → CutsShare had front rest
 cuts_whole had front rest heavy all none =
     let F : List (Segment NoOwner) → Type 0 = λ w. CopiesNoData had w × WithData IsStout w in
     let R : List (Segment NoOwner) → Type 0 = λ w. CopiesNoData had w × WithData IsHeavy w in
-    let f : F front = subst F (sym all) (own_numbers had, each_map _ _ had (λ s is some. heavy_is_stout s (is some)) heavy) in
+    let f : F front = subst F (sym all) (own_storages had, each_map _ _ had (λ s is some. heavy_is_stout s (is some)) heavy) in
     let r : R rest = subst R (sym none) (((λ some. absurd (omega (arith, some))), tt), ((λ some. absurd (omega (arith, some))), tt)) in
     record { front_copies = f.0; rest_copies = r.0; stout = f.1; heavy = r.1 }
 
@@ -234,7 +234,7 @@ pub shares_still : (nodes : List (Segment NoOwner)) (us vs : List FrameUnit) →
 shares_still nodes us vs heavy same = record {
   added = [];
   haul = same ∙ sym (append-nil us);
-  copies = let P : List (Segment NoOwner) → Type 0 = λ w. CopiesNoData nodes w in subst P (sym (append-nil nodes)) (own_numbers nodes);
+  copies = let P : List (Segment NoOwner) → Type 0 = λ w. CopiesNoData nodes w in subst P (sym (append-nil nodes)) (own_storages nodes);
   heavy = heavy;
   stout = tt;
 }
@@ -268,7 +268,7 @@ shares_frame had front rest us vs at m n cut more =
       added = Frame at frame ∷ [];
       haul = more;
       copies = each_append _ rest (frame ++ []) cut.rest_copies
-          (each_append _ frame [] (with_front (has_number had) m (trimmed_back n front) (with_back (has_number had) n front cut.front_copies)) tt);
+          (each_append _ frame [] (with_front (has_storage had) m (trimmed_back n front) (with_back (has_storage had) n front cut.front_copies)) tt);
       heavy = cut.heavy;
       stout = each_append _ frame [] (with_front is_stout m (trimmed_back n front) (with_back is_stout n front cut.stout)) tt;
     }
@@ -305,8 +305,8 @@ none_of (Some n) p true is same holds = absurd (cc is)
 none_of (Some n) p false is same holds = absurd (cc holds)
 
 -- a node without a storage has nothing of one
-pub beside_nothing : (m : ℕ) (nodes none : List (Segment NoOwner)) → none ≡ whole_window [] wrapped ∷ [] → KeepsTotalsBelow m (held_by nodes) (held_by (nodes ++ none))
-beside_nothing m nodes none is n lt =
+pub beside_nothing : (a b : Numbers) (nodes none : List (Segment NoOwner)) → none ≡ whole_window [] wrapped ∷ [] → KeepsTotalsBeside a b (held_by nodes) (held_by (nodes ++ none))
+beside_nothing a b nodes none is n lt =
     let P : List (Segment NoOwner) → Type 0 = λ w. Keeps (held_by nodes) (held_by (nodes ++ w)) n in
     let apart : held_by nodes ++ held_by (whole_window [] wrapped ∷ []) ≡ held_by (nodes ++ whole_window [] wrapped ∷ []) = sym (held_by-append nodes (whole_window [] wrapped ∷ [])) in
     let more : KeepsTotals (held_by nodes) (held_by nodes ++ held_by (whole_window [] wrapped ∷ [])) =
@@ -318,16 +318,21 @@ pub cuts_none : (had none : List (Segment NoOwner)) → WithData IsHeavy had →
 cuts_none had none heavy is =
     let F : List (Segment NoOwner) → Type 0 = λ w. CopiesNoData had w × WithData IsStout w in
     let f : F none = subst F (sym is) (((λ some. absurd (omega (arith, some))), tt), ((λ some. absurd (omega (arith, some))), tt)) in
-    record { front_copies = f.0; rest_copies = own_numbers had; stout = f.1; heavy = heavy }
+    record { front_copies = f.0; rest_copies = own_storages had; stout = f.1; heavy = heavy }
+
+-- totals are kept, and then all of them
+pub keeps_later : (a b : Numbers) (xs ys zs : List (Stake NoOwner)) → KeepsTotalsBeside a b xs ys → KeepsTotals ys zs → KeepsTotalsBeside a b xs zs
+keeps_later a b xs ys zs p q n lt = record { total = (q n).total ∙ (p n lt).total; way = λ kind is. (q n).way kind ((p n lt).way kind is) }
 
 -- first nodes leave a chain, and then the next ones
-pub cut_twice : (m k : ℕ) (old mid now first next : List (Segment NoOwner)) → m ≤ k → KeepsTotalsBelow m (held_by old) (held_by (mid ++ first)) → KeepsTotalsBelow k (held_by mid) (held_by (now ++ next))
-    → KeepsTotalsBelow m (held_by old) (held_by ((now ++ first) ++ next))
-cut_twice m k old mid now first next more p q =
+pub cut_twice : (from by to : Numbers) (old mid now first next : List (Segment NoOwner)) → NumbersOn from by → NumbersOn by to
+    → KeepsTotalsBeside from by (held_by old) (held_by (mid ++ first)) → KeepsTotalsBeside by to (held_by mid) (held_by (now ++ next))
+    → KeepsTotalsBeside from to (held_by old) (held_by ((now ++ first) ++ next))
+cut_twice from by to old mid now first next before after p q =
     let a : List (Stake NoOwner) = held_by first in
     let b : List (Stake NoOwner) = held_by next in
     let u : List (Stake NoOwner) = held_by now in
-    let part : KeepsTotalsBelow k (held_by (mid ++ first)) ((u ++ b) ++ a) = λ n lt.
+    let part : KeepsTotalsBeside by to (held_by (mid ++ first)) ((u ++ b) ++ a) = λ n lt.
     let K : List (Stake NoOwner) → Type 0 = λ w. Keeps w ((u ++ b) ++ a) n in
     let L : List (Stake NoOwner) → Type 0 = λ w. Keeps (held_by mid) w n in
     subst K (sym (held_by-append mid first)) (keeps-append n (held_by mid) a (u ++ b) a (subst L (held_by-append now next) (q n lt)) (keeps_same a n)) in
@@ -335,16 +340,16 @@ cut_twice m k old mid now first next more p q =
     keeps_then _ _ _ (keeps_equal _ _ (append_assoc u b a))
     (keeps_then _ _ _ (beside_first u (b ++ a) (a ++ b) (swapped b a))
     (keeps_equal _ _ (sym (append_assoc u a b) ∙ ap (λ w. w ++ b) (sym (held_by-append now first)) ∙ sym (held_by-append (now ++ first) next)))) in
-    keeps_below_then m k _ _ _ more p (keeps_below_then k k _ _ _ (omega arith) part (keeps_below k _ _ turned))
+    keeps_beside_then from by to _ _ _ before after p (keeps_later by to _ _ _ part turned)
 
 -- nodes that left, as what hands them back
-pub gone_back : (m : ℕ) (old after gone : List (Segment NoOwner)) (h k : Haul) (r : List (Back NoOwner)) → KeepsTotalsBelow m (held_by old) (held_by (after ++ gone)) → KeepsTotals (held_by gone) (stakes_in r)
-    → k.units.items ≡ h.units.items → k.back.items ≡ h.back.items ++ r ∷ [] → KeepsTotalsBelow m (held_by old ++ hauled h) (held_by after ++ hauled k)
-gone_back m old after gone h k r keeps given u b = moved m old after gone (stakes_in r) (hauled h) (hauled k) keeps given (returned_hauled h k r u b)
+pub gone_back : (m n : Numbers) (old after gone : List (Segment NoOwner)) (h k : Haul) (r : List (Back NoOwner)) → KeepsTotalsBeside m n (held_by old) (held_by (after ++ gone)) → KeepsTotals (held_by gone) (stakes_in r)
+    → k.units.items ≡ h.units.items → k.back.items ≡ h.back.items ++ r ∷ [] → KeepsTotalsBeside m n (held_by old ++ hauled h) (held_by after ++ hauled k)
+gone_back m n old after gone h k r keeps given u b = moved m n old after gone (stakes_in r) (hauled h) (hauled k) keeps given (returned_hauled h k r u b)
 
 -- what a haul has stays beside what was cut
-pub cut_beside : (m : ℕ) (old now : List (Segment NoOwner)) (h k : Haul) → KeepsTotalsBelow m (held_by old) (held_by now) → SameHaul h k → KeepsTotalsBelow m (held_by old ++ hauled h) (held_by now ++ hauled k)
-cut_beside m old now h k keeps same n lt = keeps-append n (held_by old) (hauled h) (held_by now) (hauled k) (keeps n lt) (keeps_equal _ _ (sym (same_hauled h k same)) n)
+pub cut_beside : (a b : Numbers) (old now : List (Segment NoOwner)) (h k : Haul) → KeepsTotalsBeside a b (held_by old) (held_by now) → SameHaul h k → KeepsTotalsBeside a b (held_by old ++ hauled h) (held_by now ++ hauled k)
+cut_beside a b old now h k keeps same n lt = keeps-append n (held_by old) (hauled h) (held_by now) (hauled k) (keeps n lt) (keeps_equal _ _ (sym (same_hauled h k same)) n)
 
 -- the two parts of a chain that was cut further: no data was copied
 pub cuts_further : (had mid rest front next : List (Segment NoOwner)) → CutsShare had front mid → CutsShare mid next rest → CutsShare had front rest
@@ -366,15 +371,15 @@ cuts_later had mid frame rest p q = record {
 
 -- a frame that was cut comes behind all units before
 pub moves_cut : (m n : Numbers) (before after frame : List (Segment NoOwner)) (g h k l : Haul) (at : ℕ) → SameHaul g h
-    → KeepsTotalsBelow (length m) (held_by before ++ hauled h) (held_by (after ++ frame) ++ hauled k) → NumbersOn m n → Begins h.back.items k.back.items
+    → KeepsTotalsBeside m n (held_by before ++ hauled h) (held_by (after ++ frame) ++ hauled k) → NumbersOn m n → Begins h.back.items k.back.items
     → l.units.items ≡ k.units.items ++ Frame at frame ∷ [] → l.back.items ≡ k.back.items → Moves m n before after g l
 moves_cut m n before after frame g h k l at same keeps numbers back u b = record {
   totals =
       let apart : held_by (after ++ frame) ++ hauled k ≡ held_by after ++ (held_by frame ++ hauled k) = ap (λ w. w ++ hauled k) (held_by-append after frame) ∙ append_assoc (held_by after) (held_by frame) (hauled k) in
-      let P : List (Stake NoOwner) → Type 0 = λ w. KeepsTotalsBelow (length m) (held_by before ++ w) (held_by after ++ hauled l) in
+      let P : List (Stake NoOwner) → Type 0 = λ w. KeepsTotalsBeside m n (held_by before ++ w) (held_by after ++ hauled l) in
       let on : KeepsTotals (held_by (after ++ frame) ++ hauled k) (held_by after ++ hauled l) =
       keeps_then _ _ _ (keeps_equal _ _ apart) (beside_first (held_by after) (held_by frame ++ hauled k) (hauled l) (framed_hauled k l at frame u b)) in
-      subst P (same_hauled g h same) (keeps_below_then (length m) (length m) _ _ _ (omega arith) keeps (keeps_below (length m) _ _ on));
+      subst P (same_hauled g h same) (keeps_later m n _ _ _ keeps on);
   mint = numbers;
   back = begins_further g.back.items k.back.items l.back.items (let Q : List (List (Back NoOwner)) → Type 0 = λ w. Begins w k.back.items in subst Q same.1 back) (begins_same k.back.items l.back.items b);
 }
@@ -389,22 +394,22 @@ shares_cut had frame rest us vs at cut more = record {
 }
 
 -- a refused call answers no nodes
-pub refused_totals : {E : Type 0} (m : ℕ) (xs k : List (Stake NoOwner)) (nodes : List (Segment NoOwner)) (r : Result (List (Segment NoOwner)) E) → IsErr r
-    → KeepsTotalsBelow m xs (held_by nodes ++ k) → KeepsTotalsBelow m xs (held_by (nodes ++ answered r) ++ k)
-refused_totals m xs k nodes (Ok some) err keeps = absurd (let never : false ≡ true = err in cc never)
-refused_totals m xs k nodes (Err e) err keeps = let P : List (Segment NoOwner) → Type 0 = λ w. KeepsTotalsBelow m xs (held_by w ++ k) in subst P (sym (append-nil nodes)) keeps
+pub refused_totals : {E : Type 0} (a b : Numbers) (xs k : List (Stake NoOwner)) (nodes : List (Segment NoOwner)) (r : Result (List (Segment NoOwner)) E) → IsErr r
+    → KeepsTotalsBeside a b xs (held_by nodes ++ k) → KeepsTotalsBeside a b xs (held_by (nodes ++ answered r) ++ k)
+refused_totals a b xs k nodes (Ok some) err keeps = absurd (let never : false ≡ true = err in cc never)
+refused_totals a b xs k nodes (Err e) err keeps = let P : List (Segment NoOwner) → Type 0 = λ w. KeepsTotalsBeside a b xs (held_by w ++ k) in subst P (sym (append-nil nodes)) keeps
 
 pub if_ok : {A E : Type 0} (P Q : A → Type 0) (r : Result A E) → IfOk r P → ((a : A) → P a → Q a) → IfOk r Q
 if_ok P Q (Ok a) p f = f a p
 if_ok P Q (Err e) p f = tt
 
 -- a cut that was refused
-pub moves_refused : (m n : Numbers) (before after : List (Segment NoOwner)) (g h k : Haul) → SameHaul g h → KeepsTotalsBelow (length m) (held_by before ++ hauled h) (held_by (after ++ []) ++ hauled k)
+pub moves_refused : (m n : Numbers) (before after : List (Segment NoOwner)) (g h k : Haul) → SameHaul g h → KeepsTotalsBeside m n (held_by before ++ hauled h) (held_by (after ++ []) ++ hauled k)
     → NumbersOn m n → Begins h.back.items k.back.items → Moves m n before after g k
 moves_refused m n before after g h k same keeps numbers back = record {
   totals =
-      let P : List (Segment NoOwner) → Type 0 = λ w. KeepsTotalsBelow (length m) (held_by before ++ hauled g) (held_by w ++ hauled k) in
-      let Q : List (Stake NoOwner) → Type 0 = λ w. KeepsTotalsBelow (length m) (held_by before ++ w) (held_by (after ++ []) ++ hauled k) in
+      let P : List (Segment NoOwner) → Type 0 = λ w. KeepsTotalsBeside m n (held_by before ++ hauled g) (held_by w ++ hauled k) in
+      let Q : List (Stake NoOwner) → Type 0 = λ w. KeepsTotalsBeside m n (held_by before ++ w) (held_by (after ++ []) ++ hauled k) in
       subst P (append-nil after) (subst Q (same_hauled g h same) keeps);
   mint = numbers;
   back = let R : List (List (Back NoOwner)) → Type 0 = λ w. Begins w k.back.items in subst R same.1 back;

@@ -3,7 +3,7 @@ use Rattle.std.proofs.Common.{◌≡◌, ℕ, ◌-◌, ◌<◌, List, [], ◌∷
 use Rattle.std.specs.Prelude.{IfSome}
 use Rattle.storage.specs.declared.release.NoOwner.{NoOwner}
 use Rattle.buffer_model.specs.Segment.{Segment, bytes_of, trimmed_start, trimmed_end}
-use Rattle.buffer_model.specs.Stake.{KeepsTotals, KeepsTotalsBelow}
+use Rattle.buffer_model.specs.Stake.{KeepsTotals, KeepsTotalsBeside}
 use Rattle.buffer_model.specs.Minted.{Numbers}
 use Rattle.buffer_model.proofs.Totals.{keeps_equal}
 use Rattle.buffer_model.proofs.Clones.{part_clones}
@@ -75,7 +75,7 @@ module _ {k front back : ℕ} {before frame after : List (Segment NoOwner)} (s :
       ap (λ w. bytes_of w) trims ∙ bytes_of-front front (trimmed_back back whole) ∙ ap (λ w. drop front w) (bytes_of-back back whole)
       ∙ ap (λ w. inner front back w) ((splits_bytes k [] [] before whole after (splits [] some fits)).0)
 
-  pub whole_totals : (m : Numbers) → KeepsTotalsBelow (length m) (held_by before) (held_by (after ++ whole))
+  pub whole_totals : (m : Numbers) → KeepsTotalsBeside m m (held_by before) (held_by (after ++ whole))
   whole_totals m = cut_keeps_totals k m m before after whole (cuts m)
 
   pub frame_totals : KeepsTotals (held_by whole) (held_by frame)

@@ -28,6 +28,10 @@ Fed n old new (Err NoMemory) =
     (old.dead ≡ false) × (new ≡ record old { fed = new.fed; kept = new.kept; dead = true })
 Fed n old new (Err Dead) = (old.dead ≡ true) × (new ≡ old)
 
+-- a decoder before and after memory was refused: it is dead, and of the same codec
+abbrev pub IsLost : Decoding → Decoding → Type 0
+IsLost old new = (new.dead ≡ true) × (new.codec ≡ old.codec)
+
 -- a decoder before and after the end of the stream, and the answer: it keeps nothing and is dead; or memory was
 -- refused, and it is dead and keeps what it kept; or it was dead before, and nothing changed
 abbrev pub Ended : {U : Type 0} → Decoding → Decoding → Result U FeedFault → Type 0

@@ -6,8 +6,8 @@ use Rattle.storage.specs.declared.release.NoOwner.{NoOwner}
 use Rattle.storage.specs.declared.back.Back.{Back}
 use Rattle.storage.specs.Back.{GivesBack, stakes_in}
 use Rattle.buffer_model.specs.Segment.{Segment, bytes_of, hold_of}
-use Rattle.buffer_model.specs.Stake.{Stake, KeepsTotals, KeepsTotalsBelow}
-use Rattle.buffer_model.specs.Minted.{Numbers, StayNumbered}
+use Rattle.buffer_model.specs.Stake.{Stake, KeepsTotals, KeepsTotalsBeside}
+use Rattle.buffer_model.specs.Minted.{Numbers, NumbersOn}
 use Rattle.iobuf_chain.specs.Accounts.{held_by}
 use Rattle.iobuf_chain.specs.Copies.{CopiesNoData, HasData, IsHeavy, IsStout, WithData}
 use Rattle.iobuf_chain.specs.Lists.{Each}
@@ -65,6 +65,11 @@ pub record ReturnsPiece (piece : List (Segment NoOwner)) (old new : Haul) : Type
   pub back : AddsReturns piece old new ⊎ (new.back.items ≡ old.back.items)
   pub room : vec_len old.back < vec_capacity old.back → AddsReturns piece old new
 
+-- the same of some pieces: only the first was handed back, and where there is none, nothing was
+abbrev pub ReturnsFirst : List (List (Segment NoOwner)) → Haul → Haul → Type 0
+ReturnsFirst [] old new = SameHaul old new
+ReturnsFirst (piece ∷ pieces) old new = ReturnsPiece piece old new
+
 -- no data was copied: the nodes with data that are kept, and those of the units that were added, have storages of these
 -- nodes; and they can still be cut, and be shared
 pub record SharesData (had kept : List (Segment NoOwner)) (old new : List FrameUnit) : Type 0 where
@@ -93,13 +98,9 @@ pub record AddsTight (old new : List FrameUnit) : Type 0 where
   pub haul : new ≡ old ++ added
   pub tight : Each IsTightUnit added
 
--- a mint numbered more storages, or none
-abbrev pub NumbersOn : Numbers → Numbers → Type 0
-NumbersOn old new = StayNumbered old new × (length old ≤ length new)
-
 -- nodes, the haul and the mint before and after: nothing of a storage is lost, and nothing that was handed back
 pub record Moves (old new : Numbers) (before after : List (Segment NoOwner)) (haul now : Haul) : Type 0 where
-  pub totals : KeepsTotalsBelow (length old) (held_by before ++ hauled haul) (held_by after ++ hauled now)
+  pub totals : KeepsTotalsBeside old new (held_by before ++ hauled haul) (held_by after ++ hauled now)
   pub mint : NumbersOn old new
   pub back : Begins haul.back.items now.back.items
 

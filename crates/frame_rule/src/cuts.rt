@@ -3,11 +3,12 @@ ghost use Rattle.std.specs.Prelude.{◌≡◌, ◌+◌, ◌-◌, ◌≤◌, ◌<
 ghost use Rattle.buffer_model.specs.Share.{wrapped};
 ghost use Rattle.storage.specs.declared.release.NoOwner.{NoOwner};
 ghost use Rattle.buffer_model.specs.Segment.{Segment, bytes_of, whole_window};
-ghost use Rattle.buffer_model.specs.Stake.{KeepsTotalsBelow};
+ghost use Rattle.buffer_model.specs.Stake.{KeepsTotalsBeside};
 ghost use Rattle.iobuf_chain.specs.Accounts.{answered, held_by};
 ghost use Rattle.frame_head.specs.Heads.{FrameAt};
 ghost use Rattle.frame_rule.specs.Scanning.{inner};
-ghost use Rattle.frame_rule.specs.Hauls.{Begins, CutsNodes, CutsOff, GivesUp, Moves, NumbersOn, SameHaul, hauled};
+ghost use Rattle.buffer_model.specs.Minted.{NumbersOn};
+ghost use Rattle.frame_rule.specs.Hauls.{Begins, CutsNodes, CutsOff, GivesUp, Moves, SameHaul, hauled};
 ghost use Rattle.frame_rule.specs.Units.{Gives};
 
 use crate::haul::Haul;
@@ -41,7 +42,7 @@ fn cut_front(
     ensures front { IfOk result (λ front. bytes_of front ≡ take k (bytes_of chain.old)) }
     ensures rest { OnOk result (bytes_of chain.new ≡ drop k (bytes_of chain.old)) }
     ensures mint { NumbersOn mint.old mint.new }
-    ensures totals { KeepsTotalsBelow (length mint.old)
+    ensures totals { KeepsTotalsBeside mint.old mint.new
         (held_by chain.old) (held_by (chain.new ++ answered result)) }
     ensures nodes { IfOk result (λ front. CutsOff chain.old front chain.new) }
 {
@@ -160,7 +161,7 @@ fn cut_frame(
     ensures units { haul.new.units ≡ haul.old.units }
     ensures back { Begins haul.old.back.items haul.new.back.items }
     ensures mint { NumbersOn mint.old mint.new }
-    ensures totals { KeepsTotalsBelow (length mint.old) (held_by chain.old ++ hauled haul.old)
+    ensures totals { KeepsTotalsBeside mint.old mint.new (held_by chain.old ++ hauled haul.old)
         (held_by (chain.new ++ answered result) ++ hauled haul.new) }
     ensures nodes { IfOk result (λ frame. CutsOff chain.old frame chain.new) }
 {
@@ -188,7 +189,7 @@ fn cut_content(
     ensures units { haul.new.units ≡ haul.old.units }
     ensures back { Begins haul.old.back.items haul.new.back.items }
     ensures mint { NumbersOn mint.old mint.new }
-    ensures totals { KeepsTotalsBelow (length mint.old) (held_by chain.old ++ hauled haul.old)
+    ensures totals { KeepsTotalsBeside mint.old mint.new (held_by chain.old ++ hauled haul.old)
         (held_by (chain.new ++ answered result) ++ hauled haul.new) }
     ensures nodes { IfOk result (λ frame. CutsOff chain.old frame chain.new) }
 {

@@ -2,13 +2,14 @@ ghost use Rattle.std.specs.Prelude.{◌≡◌, ◌↔◌, ◌⊎◌, ℕ, ◌+�
 ghost use Rattle.storage.specs.Back.{stakes_in};
 ghost use Rattle.std.specs.Option.{IfSome};
 ghost use Rattle.buffer_model.specs.Segment.{bytes_of};
-ghost use Rattle.buffer_model.specs.Stake.{KeepsTotals, KeepsTotalsBelow};
+ghost use Rattle.buffer_model.specs.Stake.{KeepsTotals, KeepsTotalsBeside};
 ghost use Rattle.iobuf_chain.specs.Accounts.{held_by};
 ghost use Rattle.iobuf_chain.specs.Copies.{HasData, IsHeavy, WithData};
 ghost use Rattle.iobuf_chain.specs.Lists.{Each};
 ghost use Rattle.frame_head.specs.Codecs.{fault_of, most_kept};
 ghost use Rattle.frame_head.specs.Units.{rest};
-ghost use Rattle.frame_rule.specs.Hauls.{AddsTight, AreReturns, Begins, HasBytesIfAny, NumbersOn, ReturnsPiece, SameHaul};
+ghost use Rattle.buffer_model.specs.Minted.{NumbersOn};
+ghost use Rattle.frame_rule.specs.Hauls.{AddsTight, AreReturns, Begins, HasBytesIfAny, ReturnsPiece, SameHaul};
 ghost use Rattle.frame_rule.specs.Hauls.{SharesData, hauled};
 ghost use Rattle.frame_rule.specs.Scanning.{IsHopeless};
 ghost use Rattle.frame_rule.specs.Decoding.{Decoding, Ended, Fed, TakesEnd, TakesIn, TakesPartly};
@@ -33,7 +34,7 @@ pub enum FeedFault {
 
 /// Cuts a stream that comes in pieces into frames. No byte of a piece is copied where its node has enough weight to be
 /// shared: a frame is made of the nodes of the pieces that it lies in.
-pub trait Decoder: Send + Drop {
+pub trait Decoder: Drop {
     ghost state: { Self → Decoding };
 
     /// It was fed exactly these bytes.
@@ -63,7 +64,7 @@ pub trait Decoder: Send + Drop {
         ensures back { Begins haul.old.back.items haul.new.back.items }
         ensures used { OnOk result (HasBytesIfAny (state self.new).kept) }
         ensures bounded { OnOk result (length (bytes_of (state self.new).kept) ≤ most_kept (state self.new).codec) }
-        ensures totals { (state self.old).dead ≡ false → KeepsTotalsBelow (length mint.old)
+        ensures totals { (state self.old).dead ≡ false → KeepsTotalsBeside mint.old mint.new
             (held_by ((state self.old).kept ++ piece.entry) ++ hauled haul.old)
             (held_by (state self.new).kept ++ hauled haul.new) }
         ensures copies { WithData IsHeavy ((state self.old).kept ++ piece.entry) → OnOk result (SharesData
@@ -75,7 +76,7 @@ pub trait Decoder: Send + Drop {
 
     /// Ends the stream, and adds what its end adds to the haul. The decoder is dead from then on, and keeps nothing,
     /// but after `NoMemory` what it kept before. O(1) but for the nodes that are given back.
-    fn end(&mut self, alloc: Global, haul: &mut Haul, mint: &mut Mint) -> Result<(), FeedFault>
+    fn end(&mut self, haul: &mut Haul) -> Result<(), FeedFault>
         ensures state { Ended (state self.old) (state self.new) result }
         ensures units { OnOk result (TakesEnd (stands self.old) (state self.old).codec
             haul.old.units.items haul.new.units.items) }
@@ -83,13 +84,12 @@ pub trait Decoder: Send + Drop {
         ensures dead { IsErrOf result FeedFault.Dead ↔ IsTrue (state self.old).dead }
         ensures returned { IsErrOf result FeedFault.Dead → SameHaul haul.old haul.new }
         ensures back { Begins haul.old.back.items haul.new.back.items }
-        ensures totals { (state self.old).dead ≡ false → KeepsTotalsBelow (length mint.old)
+        ensures totals { (state self.old).dead ≡ false → KeepsTotals
             (held_by (state self.old).kept ++ hauled haul.old) (held_by (state self.new).kept ++ hauled haul.new) }
         ensures copies { WithData IsHeavy (state self.old).kept → OnOk result (SharesData
             (state self.old).kept (state self.new).kept haul.old.units.items haul.new.units.items) }
         ensures tight { Each HasData (state self.old).kept → OnOk result
-            (AddsTight haul.old.units.items haul.new.units.items) }
-        ensures mint { NumbersOn mint.old mint.new };
+            (AddsTight haul.old.units.items haul.new.units.items) };
 
     /// Gives back what the decoder keeps, which is dead from then on. `None` exactly where it keeps nothing. No memory.
     fn give_back(&mut self) -> Option<Returns>

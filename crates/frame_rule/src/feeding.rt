@@ -1,13 +1,14 @@
 //! A piece that is taken in behind the nodes that are kept, and the end of the stream.
 ghost use Rattle.std.specs.Prelude.{◌≡◌, ◌+◌, ◌≤◌, ◌<◌, ◌^◌, [], ◌∷◌, ◌++◌, None, Some, IfErr, IfOk, OnOk, OnErr, length};
 ghost use Rattle.buffer_model.specs.Segment.{bytes_of};
-ghost use Rattle.buffer_model.specs.Stake.{KeepsTotals, KeepsTotalsBelow};
+ghost use Rattle.buffer_model.specs.Stake.{KeepsTotals, KeepsTotalsBeside};
 ghost use Rattle.iobuf_chain.specs.Accounts.{held_by};
 ghost use Rattle.iobuf_chain.specs.Copies.{HasData, IsHeavy, WithData};
 ghost use Rattle.iobuf_chain.specs.Lists.{Each};
 ghost use Rattle.frame_rule.specs.Decoding.{TakesEnd};
 ghost use Rattle.frame_rule.specs.Framing.{FitsBehind, Stands, StandsFor, StopsAt, TakesAll, framing};
-ghost use Rattle.frame_rule.specs.Hauls.{AddsTight, Begins, HasBytesIfAny, NumbersOn, SameHaul, Settles, SharesData};
+ghost use Rattle.buffer_model.specs.Minted.{NumbersOn};
+ghost use Rattle.frame_rule.specs.Hauls.{AddsTight, Begins, HasBytesIfAny, SameHaul, Settles, SharesData};
 ghost use Rattle.frame_rule.specs.Hauls.{all_kept, hauled, nodes_if, refused_in};
 ghost use Rattle.frame_rule.specs.Units.{Gives};
 
@@ -40,7 +41,7 @@ impl<S: Scanner> Progress<S> {
         ensures stops { OnErr result (StopsAt S.codec_of S.saw self.old self.new (nodes_if kept.old)
             (bytes_of piece.entry) haul.old.units.items haul.new.units.items) }
         ensures refused { FitsBehind (nodes_if kept.new) (refused_in result) }
-        ensures totals { KeepsTotalsBelow (length mint.old)
+        ensures totals { KeepsTotalsBeside mint.old mint.new
             (held_by (nodes_if kept.old ++ piece.entry) ++ hauled haul.old)
             (held_by (all_kept kept.new (refused_in result)) ++ hauled haul.new) }
         ensures mint { NumbersOn mint.old mint.new }

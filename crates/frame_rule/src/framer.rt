@@ -70,7 +70,7 @@ impl<S: Scanner> Framer<S> {
     }
 }
 
-impl<S: Scanner + Send> Decoder for Framer<S> {
+impl<S: Scanner> Decoder for Framer<S> {
     ghost use Rattle.frame_rule.specs.Framing.{StandsFor, decoding_of, keeps_rest};
 
     ghost state = { λ d. decoding_of S.codec_of d };
@@ -104,7 +104,7 @@ impl<S: Scanner + Send> Decoder for Framer<S> {
         }
     }
 
-    fn end(&mut self, _alloc: Global, haul: &mut Haul, _mint: &mut Mint) -> Result<(), FeedFault> {
+    fn end(&mut self, haul: &mut Haul) -> Result<(), FeedFault> {
         if self.dead {
             return Err(FeedFault::Dead);
         }

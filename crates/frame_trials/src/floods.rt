@@ -30,7 +30,7 @@ fn stream(
 }
 
 // A megabyte has this last unit, whatever the size of its pieces.
-fn counts<S: Scanner + Send>(
+fn counts<S: Scanner>(
     rt: &impl Abort,
     alloc: Global,
     codec: &Codec,
@@ -95,7 +95,7 @@ fn a_megabyte_by_any(rt: HostRuntime) -> Result<(), Fail> {
 }
 
 // Of a stream whose last unit becomes no frame no more than so many bytes are kept behind any piece.
-fn keeps<S: Scanner + Send>(
+fn keeps<S: Scanner>(
     rt: &impl Abort,
     alloc: Global,
     codec: &Codec,

@@ -20,7 +20,7 @@ use std::test::Fail;
 type Moment<'a> = (&'a [&'a [u8]], bool, u64, Option<usize>, &'a str);
 
 // These are moments of the decoder of the codec's kind, and of that for any.
-fn has_moments<S: Scanner + Send>(
+fn has_moments<S: Scanner>(
     rt: &impl Abort,
     alloc: Global,
     codec: &Codec,
@@ -50,7 +50,7 @@ fn gives_back<D: Decoder>(
     let mut rig = Rig::new(alloc, decoder);
     assert!(rt; rig.feed_each(alloc, fed)?);
     if ended {
-        assert!(rt; rig.end(alloc)?);
+        assert!(rt; rig.end()?);
     }
     assert_eq!(rt; rig.decoder.held(), held);
     assert_eq!(rt; text_of(alloc, &rig.haul.units)?.as_str(), units);
@@ -254,7 +254,7 @@ fn is_dead<D: Decoder>(rt: &impl Abort, alloc: Global, rig: &mut Rig<D>) -> Resu
     let backs = rig.haul.back.len();
     assert_eq!(rt; rig.decoder.held(), 0u64);
     assert!(rt; !rig.feed_bytes(alloc, b"\x01x")?);
-    assert!(rt; !rig.end(alloc)?);
+    assert!(rt; !rig.end()?);
     assert_eq!(rt; rig.haul.units.len(), units);
     assert_eq!(rt; rig.haul.back.len(), backs.saturating_add(1));
     Ok(())
@@ -269,7 +269,7 @@ fn dead_behind_either_end(rt: HostRuntime) -> Result<(), Fail> {
         let mut rig = Rig::new(rt.alloc(), Framer::<LengthScanner>::new(codec));
         assert!(rt; rig.feed_bytes(rt.alloc(), b"\x03ab")?);
         if ended {
-            assert!(rt; rig.end(rt.alloc())?);
+            assert!(rt; rig.end()?);
         }
         if given {
             assert_eq!(rt; rig.decoder.give_back().is_some(), !ended);

@@ -89,11 +89,11 @@ impl<D: Decoder> Rig<D> {
     }
 
     // Ends the stream, and tells whether the decoder was alive.
-    pub(crate) fn end(&mut self, alloc: Global) -> Result<bool, Fail>
+    pub(crate) fn end(&mut self) -> Result<bool, Fail>
         requires { (D.state self.old.decoder).fed ≡ self.old.fed }
         ensures { OnOk result ((D.state self.new.decoder).fed ≡ self.new.fed) }
     {
-        match self.decoder.end(alloc, &mut self.haul, &mut self.mint) {
+        match self.decoder.end(&mut self.haul) {
             Ok(()) => Ok(true),
             Err(FeedFault::Dead) => Ok(false),
             Err(FeedFault::NoMemory) => Err(Fail::from("no memory")),
@@ -151,7 +151,7 @@ pub(crate) fn cut_in_pieces<D: Decoder>(
     'pieces: for bytes in input.chunks(piece.max(1)) {
         rig.feed_bytes(alloc, bytes)?;
     }
-    rig.end(alloc)?;
+    rig.end()?;
     text_of(alloc, &rig.haul.units)
 }
 
@@ -167,7 +167,7 @@ pub(crate) fn cut_in_nodes<D: Decoder>(
     'pieces: for texts in pieces {
         rig.feed_nodes(alloc, texts)?;
     }
-    rig.end(alloc)?;
+    rig.end()?;
     text_of(alloc, &rig.haul.units)
 }
 
@@ -191,7 +191,7 @@ pub(crate) fn count_in_pieces<D: Decoder>(
         rig.haul.units.clear();
         rig.haul.back.clear();
     }
-    rig.end(alloc)?;
+    rig.end()?;
     count = count.saturating_add(rig.haul.units.len());
     let mut text = String::new(alloc);
     if let Some(unit) = rig.haul.units.pop().or(last) {
@@ -215,7 +215,7 @@ pub(crate) fn most_held<D: Decoder>(
         rig.feed_bytes(alloc, bytes)?;
         most = rig.decoder.held().max(most);
     }
-    rig.end(alloc)?;
+    rig.end()?;
     let text = text_of(alloc, &rig.haul.units)?;
     Ok((most, text))
 }

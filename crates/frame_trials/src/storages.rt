@@ -222,7 +222,7 @@ fn come_back(rt: &impl Abort, alloc: Global, pieces: &[&[u8]], ended: bool) -> R
     let mut rig = Rig::new(alloc, Framer::<AnyScanner>::new(codec));
     feed_lent(alloc, &mut rig, pieces)?;
     if ended {
-        rig.end(alloc)?;
+        rig.end()?;
     }
     let mut accounts = [NOTHING; 6];
     settle_all(rig, &mut accounts);

@@ -16,7 +16,7 @@ const WHOLE: usize = 1000;
 const PIECES: [usize; 4] = [1, 2, 3, WHOLE];
 
 // A stream has these units whatever the size of its pieces, by the scanner of the codec's kind and by that for any.
-fn cuts<S: Scanner + Send>(
+fn cuts<S: Scanner>(
     rt: &impl Abort,
     alloc: Global,
     codec: &Codec,
@@ -38,7 +38,7 @@ fn cuts<S: Scanner + Send>(
 }
 
 // A stream of these pieces has these units, by the scanner of the codec's kind and by that for any.
-fn cuts_nodes<S: Scanner + Send>(
+fn cuts_nodes<S: Scanner>(
     rt: &impl Abort,
     alloc: Global,
     codec: &Codec,

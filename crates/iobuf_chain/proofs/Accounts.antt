@@ -4,7 +4,7 @@ use Rattle.std.proofs.lemmas.Option.{none-some}
 use Rattle.std.proofs.lemmas.List.{take-append-drop, append-nil}
 use Rattle.buffer_model.specs.Share.{Kind}
 use Rattle.buffer_model.specs.Segment.{Segment}
-use Rattle.buffer_model.specs.Stake.{Stake, held, weight_in, total, IsOneWay, Keeps, KeepsTotals, KeepsTotalsBelow}
+use Rattle.buffer_model.specs.Stake.{Stake, held, weight_in, total, IsOneWay, Keeps, KeepsTotals}
 use Rattle.buffer_model.proofs.Totals.{keeps_same, keeps_equal, keeps_then, total-append, one_way-append, one_way-front, one_way-back}
 use Rattle.iobuf_chain.specs.Accounts.{held_by, answered, handed_back}
 use Rattle.iobuf_chain.proofs.Bytes.{parts_of}

@@ -7,7 +7,7 @@ use Rattle.buffer_model.specs.Minted.{Numbers}
 use Rattle.buffer_model.specs.Clones.{Clones}
 use Rattle.iobuf_chain.specs.Lists.{Each}
 use Rattle.iobuf_chain.specs.Shares.{ClonesEach}
-use Rattle.iobuf_chain.specs.Copies.{HasData, HasNumber, WithData, CopiesNoData, IsHeavy, IsStout, IsShareable}
+use Rattle.iobuf_chain.specs.Copies.{HasData, HasStorage, IsSameStorage, WithData, CopiesNoData, IsHeavy, IsStout, IsShareable}
 use Rattle.iobuf_chain.proofs.Rejoined.{unmanaged}
 
 pub shares_in_turn : (k w : ℕ) → k ≤ 1024 → k + 2 ≤ w → k + 1 ≤ w - part w
@@ -30,28 +30,40 @@ each_map P Q [] f p = tt
 each_map P Q (x ∷ xs) f p = (f x p.0, each_map P Q xs f p.1)
 
 module _ {O : Type 0} where
-  pub number_later : (n : Option ℕ) (xs ys : List (Segment O)) → HasNumber n ys → HasNumber n (xs ++ ys)
-  number_later n [] ys h = h
-  number_later n (x ∷ xs) ys h = inr (number_later n xs ys h)
+  pub storage_later : (k : Share O) (xs ys : List (Segment O)) → HasStorage k ys → HasStorage k (xs ++ ys)
+  storage_later k [] ys h = h
+  storage_later k (x ∷ xs) ys h = inr (storage_later k xs ys h)
 
-  pub number_sooner : (n : Option ℕ) (xs ys : List (Segment O)) → HasNumber n xs → HasNumber n (xs ++ ys)
-  number_sooner n [] ys h = absurd h
-  number_sooner n (x ∷ xs) ys (inl h) = inl h
-  number_sooner n (x ∷ xs) ys (inr h) = inr (number_sooner n xs ys h)
+  pub storage_sooner : (k : Share O) (xs ys : List (Segment O)) → HasStorage k xs → HasStorage k (xs ++ ys)
+  storage_sooner k [] ys h = absurd h
+  storage_sooner k (x ∷ xs) ys (inl h) = inl h
+  storage_sooner k (x ∷ xs) ys (inr h) = inr (storage_sooner k xs ys h)
+
+  -- it goes by the storage alone
+  pub storage_of_same : (j k : Share O) (xs : List (Segment O)) → IsSameStorage j k → HasStorage k xs → HasStorage j xs
+  storage_of_same j k [] same h = absurd h
+  storage_of_same j k (x ∷ xs) same (inl h) = inl (h.0, (h.1.0 ∙ sym same.0, h.1.1 ∙ sym same.1))
+  storage_of_same j k (x ∷ xs) same (inr h) = inr (storage_of_same j k xs same h)
 
   -- nodes that stay have the storages that they had
-  pub own_numbers : (xs : List (Segment O)) → CopiesNoData xs xs
-  own_numbers [] = tt
-  own_numbers (x ∷ xs) = (λ data_is. inl (data_is, refl), each_map _ _ xs (λ s h d. inr (h d)) (own_numbers xs))
+  pub own_storages : (xs : List (Segment O)) → CopiesNoData xs xs
+  own_storages [] = tt
+  own_storages (x ∷ xs) = (λ data_is. inl (data_is, (refl, refl)), each_map _ _ xs (λ s h d. inr (h d)) (own_storages xs))
 
   -- a clone of a node that can be shared has its storage
-  pub clone_number : (old new : Numbers) (before after clone : Segment O) → Clones old new before after clone → 2 ≤ before.share.weight
-      → (clone.share.number ≡ before.share.number) × (after.share.number ≡ before.share.number)
-  clone_number old new before after clone is more =
+  pub clone_storage : (old new : Numbers) (before after clone : Segment O) → Clones old new before after clone → 2 ≤ before.share.weight
+      → IsSameStorage clone.share before.share × IsSameStorage after.share before.share
+  clone_storage old new before after clone is more =
       elim is.shares [
         | inl (same, splits) ↦ elim splits [
-          | inl w ↦ (ap (λ (s : Share O). s.number) w.2, ap (λ (s : Share O). s.number) w.1)
-          | inr w ↦ (ap (λ (s : Share O). s.number) w.2, ap (λ (s : Share O). s.number) w.1)
+          | inl w ↦ (
+            (ap (λ (s : Share O). s.number) w.2, ap (λ (s : Share O). s.table) w.2),
+            (ap (λ (s : Share O). s.number) w.1, ap (λ (s : Share O). s.table) w.1),
+          )
+          | inr w ↦ (
+            (ap (λ (s : Share O). s.number) w.2, ap (λ (s : Share O). s.table) w.2),
+            (ap (λ (s : Share O). s.number) w.1, ap (λ (s : Share O). s.table) w.1),
+          )
         ]
         | inr (adds, renews) ↦ absurd (let one = renews.0 in omega (arith, one, more))
       ]
@@ -62,7 +74,10 @@ module _ {O : Type 0} where
   clones_copy_nothing old new (b ∷ bs) (n ∷ ns) (c ∷ cs) is may =
       let clone : c.window ≡ b.window = ap (λ (t : Segment O). t.window) is.1.clone_lists in
       let size : length c.window ≡ length b.window = ap length clone in (
-        (λ some. let had : HasData b = omega (arith, size, some) in inl (had, sym (clone_number old is.0 b n c is.1 (may.0 had)).0)),
+        (λ some.
+            let had : HasData b = omega (arith, size, some) in
+            let same = (clone_storage old is.0 b n c is.1 (may.0 had)).0 in
+            inl (had, (sym same.0, sym same.1))),
         each_map _ _ cs (λ s h d. inr (h d)) (clones_copy_nothing is.0 new bs ns cs is.2 may.1),
       )
   clones_copy_nothing old new [] [] (z ∷ cs) is may = absurd is

@@ -4,7 +4,7 @@ use Rattle.std.specs.Prelude.{IfSome}
 use Rattle.std.proofs.lemmas.Option.{none-some}
 use Rattle.buffer_model.specs.Segment.{Segment, bytes_of, trimmed_start, trimmed_end}
 use Rattle.buffer_model.specs.Share.{Share, part_of}
-use Rattle.buffer_model.specs.Stake.{Stake, held, Keeps, KeepsTotals, KeepsTotalsBelow}
+use Rattle.buffer_model.specs.Stake.{Stake, Storage, held, Keeps, KeepsTotals, KeepsTotalsBeside}
 use Rattle.buffer_model.specs.Minted.{Numbers}
 use Rattle.buffer_model.specs.Clones.{Clones, SharesPart}
 use Rattle.buffer_model.proofs.Totals.{keeps_same, keeps_equal, keeps_then, keeps-append, share_keeps}
@@ -56,7 +56,7 @@ module _ {O : Type 0} where
       (omega (arith, a, b, la, lb, d, e, within), ap length cut.after_is ∙ sym (ap length cut.before_is))
 
   -- a node gave a part of its weight to another, which comes last
-  parted_totals : (n : ℕ) (behind : List (Segment O)) (node left clone : Share O) (before after : List (Stake O)) → Keeps (held node ∷ []) (held left ∷ held clone ∷ []) n
+  parted_totals : (n : Storage) (behind : List (Segment O)) (node left clone : Share O) (before after : List (Stake O)) → Keeps (held node ∷ []) (held left ∷ held clone ∷ []) n
       → before ≡ held node ∷ held_by behind → after ≡ held left ∷ (held_by behind ++ held clone ∷ []) → Keeps before after n
   parted_totals n behind node left clone before after keeps was is =
       let rest = held_by behind in
@@ -71,7 +71,7 @@ module _ {O : Type 0} where
   parted_nodes k behind front after left other is only =
       ap (λ w. held_by (w ++ front)) is ∙ ap (λ w. held_by (trimmed_start k left ∷ (behind ++ w))) only ∙ ap (λ w. held left.share ∷ w) (held_by-append behind (other ∷ []))
 
-  pub cut_keeps_totals : (k : ℕ) (old new : Numbers) (before after front : List (Segment O)) → CutsFirst k old new before front after → KeepsTotalsBelow (length old) (held_by before) (held_by (after ++ front))
+  pub cut_keeps_totals : (k : ℕ) (old new : Numbers) (before after front : List (Segment O)) → CutsFirst k old new before front after → KeepsTotalsBeside old new (held_by before) (held_by (after ++ front))
   cut_keeps_totals k old new before after front cut n lt =
       parted_totals n cut.behind cut.node.share cut.left.share cut.clone.share (held_by before) (held_by (after ++ front)) (clone_keeps_totals old new cut.node cut.left cut.clone cut.clones n lt)
       (ap held_by cut.before_is) (parted_nodes k cut.behind front after cut.left _ cut.after_is cut.front_is)

@@ -10,3 +10,4 @@ pub mod Absorbed
 pub mod Moved
 pub mod Ranged
 pub mod FirstCuts
+pub mod Lasting

@@ -3,11 +3,11 @@ use Rattle.std.proofs.Common.{◌≡◌, ◌⊎◌, ℕ, suc, zero, ◌+◌, ◌
 use Rattle.std.proofs.lemmas.List.{append-nil}
 use Rattle.buffer_model.specs.Share.{Share, IsManaged, own}
 use Rattle.buffer_model.specs.Segment.{Segment, bytes_of, shared_as}
-use Rattle.buffer_model.specs.Stake.{Stake, held, Keeps, KeepsTotals, KeepsTotalsBelow}
-use Rattle.buffer_model.specs.Minted.{Numbers, Adds, AddsAtMost, IsNew, IsNumberedAs}
+use Rattle.buffer_model.specs.Stake.{Stake, held, Keeps, KeepsTotals, KeepsTotalsBeside}
+use Rattle.buffer_model.specs.Minted.{Numbers, NumbersOn, Adds, AddsAtMost, IsNew, IsNumberedAs}
 use Rattle.buffer_model.specs.Clones.{MovesOut}
-use Rattle.buffer_model.proofs.Minted.{adds_none, adds_at_most, adds_then}
-use Rattle.buffer_model.proofs.Totals.{keeps_same, keeps_equal, keeps_beside, keeps-append, keeps_wrapped_out}
+use Rattle.buffer_model.proofs.Minted.{adds_none, adds_at_most, adds_then, same_on, adds_on, on_then}
+use Rattle.buffer_model.proofs.Totals.{keeps_same, keeps_equal, keeps_beside, keeps-append, keeps_wrapped_out, apart_first, apart_then}
 use Rattle.iobuf_chain.specs.Accounts.{held_by}
 use Rattle.iobuf_chain.specs.Lists.{Each}
 use Rattle.iobuf_chain.specs.Managed.{Manages, ManagesEach, Copies, CopiesEach, PicksEach}
@@ -200,19 +200,29 @@ module _ {O : Type 0} where
       let high = then_same.2 in
       (then_same.0, low, omega (arith, high, e))
 
+  manages_on : (old new : Numbers) (before after : Segment O) → Manages old new before after → NumbersOn old new
+  manages_on old new before after is = elim is [
+    | inl stays ↦ same_on old new stays.2
+    | inr moves ↦ adds_on 1 old new moves.1.mint
+  ]
+
+  each_on : (old new : Numbers) (bs ms : List (Segment O)) → ManagesEach old new bs ms → NumbersOn old new
+  each_on old new [] [] is = same_on old new is
+  each_on old new (b ∷ bs) (m ∷ ms) is = on_then old is.0 new (manages_on old is.0 b m is.1) (each_on is.0 new bs ms is.2)
+  each_on old new [] (m ∷ ms) is = absurd is
+  each_on old new (b ∷ bs) [] is = absurd is
+
   -- a chain that is managed keeps totals
-  pub manages_keep : (old new : Numbers) (bs ms : List (Segment O)) → ManagesEach old new bs ms → KeepsTotalsBelow (length old) (held_by bs) (held_by ms)
+  pub manages_keep : (old new : Numbers) (bs ms : List (Segment O)) → ManagesEach old new bs ms → KeepsTotalsBeside old new (held_by bs) (held_by ms)
   manages_keep old new [] [] is n h = keeps_same [] n
   manages_keep old new (b ∷ bs) (m ∷ ms) is n h =
       let mid : Numbers = is.0 in
+      let first = manages_on old mid b m is.1 in
+      let next = each_on mid new bs ms is.2 in
       let head : Keeps (held b.share ∷ []) (held m.share ∷ []) n = elim is.1 [
         | inl stays ↦ keeps_equal _ _ (ap (λ (s : Segment O). held s.share ∷ []) (sym stays.1)) n
-        | inr moves ↦ keeps_beside old mid own m.share (held b.share ∷ []) [] moves.1.storage (keeps_wrapped_out b.share moves.0) n h
+        | inr moves ↦ keeps_beside old mid own m.share (held b.share ∷ []) [] moves.1.storage (keeps_wrapped_out b.share moves.0) n (apart_first old mid new n next h)
       ] in
-      let low : n < length mid = elim is.1 [
-        | inl stays ↦ let e = ap length stays.2 in omega (arith, e, h)
-        | inr moves ↦ let e = moves.1.mint.1 in omega (arith, e, h)
-      ] in
-      keeps-append n (held b.share ∷ []) (held_by bs) (held m.share ∷ []) (held_by ms) head (manages_keep mid new bs ms is.2 n low)
+      keeps-append n (held b.share ∷ []) (held_by bs) (held m.share ∷ []) (held_by ms) head (manages_keep mid new bs ms is.2 n (apart_then old mid new n first h))
   manages_keep old new [] (m ∷ ms) is n h = absurd is
   manages_keep old new (b ∷ bs) [] is n h = absurd is

@@ -5,22 +5,22 @@ use Rattle.std.proofs.lemmas.Option.{none-some}
 use Rattle.std.proofs.lemmas.List.{append-nil, take_min}
 use Rattle.buffer_model.specs.Share.{Share, own}
 use Rattle.buffer_model.specs.Segment.{Segment, bytes_of, between_rooms, shared_as, trimmed_start, trimmed_end}
-use Rattle.buffer_model.specs.Stake.{Stake, held, Keeps, KeepsTotals, KeepsTotalsBelow}
+use Rattle.buffer_model.specs.Stake.{Stake, held, Keeps, KeepsTotals, KeepsTotalsBeside}
 use Rattle.buffer_model.specs.Minted.{Numbers, Adds, AddsAtMost}
 use Rattle.buffer_model.specs.Clones.{Clones}
-use Rattle.buffer_model.proofs.Minted.{adds_none, adds_at_most, adds_then}
-use Rattle.buffer_model.proofs.Totals.{keeps_same, keeps_equal, keeps-append, keeps_made}
+use Rattle.buffer_model.proofs.Minted.{adds_none, adds_at_most, adds_then, at_most_on}
+use Rattle.buffer_model.proofs.Totals.{keeps_same, keeps_equal, keeps-append, keeps_made, apart_first, apart_then}
 use Rattle.buffer_model.proofs.Clones.{clone_keeps_totals}
 use Rattle.iobuf_chain.specs.Accounts.{held_by}
 use Rattle.iobuf_chain.specs.Lists.{Each}
-use Rattle.iobuf_chain.specs.Copies.{HasData, HasNumber, WithData, CopiesNoData, IsShareable}
+use Rattle.iobuf_chain.specs.Copies.{HasData, WithData, CopiesNoData, IsShareable}
 use Rattle.iobuf_chain.specs.Shares.{HasSome, narrowed, SharesOne, SharesNodes, SharesSome, SharesAt, ClonesAt, present, Regains, IsReturnable, IsReturnableAt, IsSharedSo, IsEmptyChain, Rejoins, RejoinsAt, RejoinsNext, RegainsAll}
 use Rattle.iobuf_chain.proofs.Lists.{at_seam, length-slice_set}
 use Rattle.iobuf_chain.proofs.TrimmedEnds.{drop-joined, take-joined}
 use Rattle.iobuf_chain.proofs.Accounts.{swaps_nodes, held_by-append}
 use Rattle.iobuf_chain.proofs.Rejoined.{clone_returns, clone_regains, regains_same, regains_each}
-use Rattle.iobuf_chain.proofs.Shared.{set_same, keeps_over, clone_grows}
-use Rattle.iobuf_chain.proofs.Copied.{each_map, clone_number}
+use Rattle.iobuf_chain.proofs.Shared.{set_same, keeps_over}
+use Rattle.iobuf_chain.proofs.Copied.{each_map, clone_storage}
 
 nothing_taken : (at n : ℕ) (w : List ℕ) → ((at < length w) × (0 < n) → ⊥) → take n (drop at w) ≡ []
 nothing_taken at zero w h = refl
@@ -267,27 +267,25 @@ module _ {O : Type 0} where
   range_bytes at n old new bs ms cs s = ap bytes_of s.shares_are ∙ nodes_bytes at n old new bs ms s.parts s.nodes
 
   one_keeps : (at n : ℕ) (old new : Numbers) (b m : Segment O) (o : Option (Segment O)) → SharesOne at n old new b m o
-      → KeepsTotalsBelow (length old) (held b.share ∷ []) (held m.share ∷ held_by (present (o ∷ [])))
+      → KeepsTotalsBeside old new (held b.share ∷ []) (held m.share ∷ held_by (present (o ∷ [])))
   one_keeps at n old new b m None is j h = keeps_equal _ _ (ap (λ (s : Segment O). held s.share ∷ []) (sym is.1)) j
   one_keeps at n old new b m (Some c) is j h = clone_keeps_totals old new b m (shared_as c.share b) is.1 j h
-
-  one_grows : (at n : ℕ) (old new : Numbers) (b m : Segment O) (o : Option (Segment O)) → SharesOne at n old new b m o → length old ≤ length new
-  one_grows at n old new b m o is = (one_mint at n old new b m o is).1
 
   present-cons : (o : Option (Segment O)) (os : List (Option (Segment O))) → present (o ∷ os) ≡ present (o ∷ []) ++ present os
   present-cons None os = refl
   present-cons (Some c) os = refl
 
   nodes_keep : (at n k : ℕ) (old new : Numbers) (bs ms : List (Segment O)) (os : List (Option (Segment O))) → SharesNodes at n k old new bs ms os
-      → KeepsTotalsBelow (length old) (held_by bs) (held_by (ms ++ present os))
+      → KeepsTotalsBeside old new (held_by bs) (held_by (ms ++ present os))
   nodes_keep at n k old new bs ms [] is j h = keeps_equal _ _ (ap held_by (sym is.1) ∙ ap held_by (sym (append-nil ms))) j
   nodes_keep at n k old new (b ∷ bs) (m ∷ ms) (o ∷ os) is j h =
       let mid : Numbers = is.0 in
-      let low : j < length mid = let grows = one_grows at n old mid b m o is.1 in omega (arith, grows, h) in
+      let first = at_most_on 1 old mid (one_mint at n old mid b m o is.1) in
+      let next = at_most_on (length bs) mid new (nodes_mint (at - length b.window) (n - (length b.window - at)) k mid new bs ms os is.2) in
       let mine : List (Segment O) = present (o ∷ []) in
       let others : List (Segment O) = present os in
-      let head = one_keeps at n old mid b m o is.1 j h in
-      let rest = nodes_keep (at - length b.window) (n - (length b.window - at)) k mid new bs ms os is.2 j low in
+      let head = one_keeps at n old mid b m o is.1 j (apart_first old mid new j next h) in
+      let rest = nodes_keep (at - length b.window) (n - (length b.window - at)) k mid new bs ms os is.2 j (apart_then old mid new j first h) in
       let both = keeps-append j (held b.share ∷ []) (held_by bs) (held m.share ∷ held_by mine) (held_by (ms ++ others)) head rest in
       let turned : Keeps (held_by (m ∷ (mine ++ ms))) (held_by (m ∷ (ms ++ mine))) j = swaps_nodes (m ∷ []) mine ms j in
       let longer = keeps-append j (held_by (m ∷ (mine ++ ms))) (held_by others) (held_by (m ∷ (ms ++ mine))) (held_by others) turned (keeps_same (held_by others) j) in
@@ -301,9 +299,9 @@ module _ {O : Type 0} where
   nodes_keep at n k old new (b ∷ bs) [] (o ∷ os) is j h = absurd is
 
   pub some_keeps : (at n k : ℕ) (old new : Numbers) (bs ms cs : List (Segment O)) → SharesSome at n k old new bs ms cs
-      → KeepsTotalsBelow (length old) (held_by bs) (held_by (ms ++ cs))
+      → KeepsTotalsBeside old new (held_by bs) (held_by (ms ++ cs))
   some_keeps at n k old new bs ms cs s =
-      let P : List (Segment O) → Type 0 = λ xs. KeepsTotalsBelow (length old) (held_by bs) (held_by (ms ++ xs)) in
+      let P : List (Segment O) → Type 0 = λ xs. KeepsTotalsBeside old new (held_by bs) (held_by (ms ++ xs)) in
       subst P (sym s.shares_are) (nodes_keep at n k old new bs ms s.parts s.nodes)
 
   nodes_copy_nothing : (at n k : ℕ) (old new : Numbers) (bs ms : List (Segment O)) (os : List (Option (Segment O))) → SharesNodes at n k old new bs ms os
@@ -315,7 +313,9 @@ module _ {O : Type 0} where
   nodes_copy_nothing at n k old new (b ∷ bs) (m ∷ ms) (Some c ∷ os) is may =
       let low = is.1.0.0 in
       let had : HasData b = omega (arith, low) in (
-        (λ some. inl (had, sym (clone_number old is.0 b m (shared_as c.share b) is.1.1 (may.0 had)).0)),
+        (λ some.
+            let same = (clone_storage old is.0 b m (shared_as c.share b) is.1.1 (may.0 had)).0 in
+            inl (had, (sym same.0, sym same.1))),
         each_map _ _ (present os) (λ s h d. inr (h d))
             (nodes_copy_nothing (at - length b.window) (n - (length b.window - at)) k is.0 new bs ms os is.2 may.1),
       )
@@ -573,7 +573,7 @@ module _ {O : Type 0} where
         ] all,
       )
 
-  pub empty_keeps : (old new : Numbers) (xs cs : List (Segment O)) → IsEmptyChain old new cs → KeepsTotalsBelow (length old) (held_by xs) (held_by (xs ++ cs))
+  pub empty_keeps : (old new : Numbers) (xs cs : List (Segment O)) → IsEmptyChain old new cs → KeepsTotalsBeside old new (held_by xs) (held_by (xs ++ cs))
   empty_keeps old new xs cs is n h =
       let made = keeps_made old new own is.share is.storage n h in
       let both = keeps-append n (held_by xs) [] (held_by xs) (held is.share ∷ []) (keeps_same (held_by xs) n) made in

@@ -6,7 +6,7 @@ use Rattle.share_count.specs.Weights.{full, part}
 use Rattle.share_count.specs.Held.{Tally}
 use Rattle.buffer_model.specs.Share.{Share, Held, IsManaged, rest_of, absorbed_in}
 use Rattle.buffer_model.specs.Segment.{Segment, shared_as}
-use Rattle.buffer_model.specs.Stake.{held, weight_at, weight_in, total, IsOfKind, KeepsTotals}
+use Rattle.buffer_model.specs.Stake.{Storage, held, weight_at, weight_in, total, IsOfKind, KeepsTotals}
 use Rattle.buffer_model.specs.Minted.{Numbers}
 use Rattle.buffer_model.specs.Clones.{Clones}
 use Rattle.storage.specs.declared.back.Back.{Back}
@@ -96,9 +96,11 @@ module _ {O : Type 0} where
         ]
       ]
 
-  regains_weight : (n : ℕ) (s t : Segment O) → Regains s t → weight_in n (held t.share) ≡ weight_in n (held s.share)
+  regains_weight : (n : Storage) (s t : Segment O) → Regains s t → weight_in n (held t.share) ≡ weight_in n (held s.share)
   regains_weight n s t r =
-      ap (λ (o : Option ℕ). weight_at n o (t.share.weight + t.share.absorbed)) r.number ∙ ap (λ (w : ℕ). weight_at n s.share.number w) r.weight
+      ap (λ (o : Option ℕ). weight_at n o t.share.table (t.share.weight + t.share.absorbed)) r.number
+      ∙ ap (λ o. weight_at n s.share.number o (t.share.weight + t.share.absorbed)) r.table
+      ∙ ap (λ (w : ℕ). weight_at n s.share.number s.share.table w) r.weight
 
   pub regains_keep : (xs ys : List (Segment O)) → AllZip Regains xs ys → KeepsTotals (held_by xs) (held_by ys)
   regains_keep [] [] all n = record { total = refl; way = λ kind is. tt }
@@ -107,7 +109,7 @@ module _ {O : Type 0} where
   regains_keep (x ∷ xs) (y ∷ ys) all n =
       let more = regains_keep xs ys all.1 n in record {
         total = ap (λ (w : ℕ). w + total n (held_by ys)) (regains_weight n x y all.0) ∙ ap (λ (w : ℕ). weight_in n (held x.share) + w) more.total;
-        way = λ kind is. ((λ at. subst (λ w. IsOfKind kind w) (sym all.0.way) (is.0 (sym all.0.number ∙ at))), more.way kind is.1);
+        way = λ kind is. ((λ at. subst (λ w. IsOfKind kind w) (sym all.0.way) (is.0 (sym all.0.number ∙ at.0, sym all.0.table ∙ at.1))), more.way kind is.1);
       }
 
   each_itself : (xs : List (Segment O)) → AllZip Regains xs xs

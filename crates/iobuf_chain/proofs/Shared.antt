@@ -5,10 +5,11 @@ use Rattle.std.proofs.lemmas.Option.{none-some}
 use Rattle.std.proofs.lemmas.List.{append-nil}
 use Rattle.buffer_model.specs.Share.{Share}
 use Rattle.buffer_model.specs.Segment.{Segment, bytes_of, shared_as}
-use Rattle.buffer_model.specs.Stake.{Stake, held, Keeps, KeepsTotals, KeepsTotalsBelow}
-use Rattle.buffer_model.specs.Minted.{Numbers, Adds, AddsAtMost}
+use Rattle.buffer_model.specs.Stake.{Stake, held, Keeps, Storage, KeepsTotals, KeepsTotalsBeside}
+use Rattle.buffer_model.specs.Minted.{Numbers, NumbersOn, Adds, AddsAtMost}
 use Rattle.buffer_model.specs.Clones.{Clones}
-use Rattle.buffer_model.proofs.Totals.{keeps_same, keeps_equal, keeps-append}
+use Rattle.buffer_model.proofs.Totals.{keeps_same, keeps_equal, keeps-append, apart_first, apart_then}
+use Rattle.buffer_model.proofs.Minted.{same_on, adds_on, on_then}
 use Rattle.buffer_model.proofs.Clones.{clone_keeps_totals}
 use Rattle.iobuf_chain.specs.Accounts.{held_by}
 use Rattle.iobuf_chain.specs.Shares.{ClonesEach, ClonesFirst, ClonesAt, Regains, IsReturnable, AreReturnable, Rejoins, RejoinsAt, RejoinsEach}
@@ -343,23 +344,35 @@ module _ {O : Type 0} where
       let S : List (Segment O) → Type 0 = λ xs. RejoinsEach (r.done ++ r.todo) r.given xs in
       subst P all (subst Q (sym r.before_is) (subst S (sym r.after_is) (settles_then r.done r.given r.settled r.todo r.settles)))
 
-  pub keeps_over : (n : ℕ) (xs ys zs : List (Stake O)) → Keeps xs ys n → Keeps ys zs n → Keeps xs zs n
+  pub keeps_over : (n : Storage) (xs ys zs : List (Stake O)) → Keeps xs ys n → Keeps ys zs n → Keeps xs zs n
   keeps_over n xs ys zs p q = record { total = q.total ∙ p.total; way = λ kind is. q.way kind (p.way kind is) }
 
-  pub clone_grows : (old new : Numbers) (before after clone : Segment O) → Clones old new before after clone → length old ≤ length new
-  clone_grows old new before after clone is = elim is.shares [
-    | inl (same, s) ↦ let e = ap length same in omega (arith, e)
-    | inr (adds, s) ↦ let e = adds.1 in omega (arith, e)
+  clone_on : (old new : Numbers) (before after clone : Segment O) → Clones old new before after clone → NumbersOn old new
+  clone_on old new before after clone is = elim is.shares [
+    | inl (same, s) ↦ same_on old new same
+    | inr (adds, s) ↦ adds_on 1 old new adds
   ]
 
+  -- the mint goes on
+  pub each_on : (old new : Numbers) (bs ns cs : List (Segment O)) → ClonesEach old new bs ns cs → NumbersOn old new
+  each_on old new [] [] [] is = same_on old new is
+  each_on old new (b ∷ bs) (x ∷ ns) (c ∷ cs) is = on_then old is.0 new (clone_on old is.0 b x c is.1) (each_on is.0 new bs ns cs is.2)
+  each_on old new [] [] (z ∷ cs) is = absurd is
+  each_on old new [] (y ∷ ns) [] is = absurd is
+  each_on old new [] (y ∷ ns) (z ∷ cs) is = absurd is
+  each_on old new (x ∷ bs) [] [] is = absurd is
+  each_on old new (x ∷ bs) [] (z ∷ cs) is = absurd is
+  each_on old new (x ∷ bs) (y ∷ ns) [] is = absurd is
+
   -- clones keep totals
-  pub each_keeps : (old new : Numbers) (bs ns cs : List (Segment O)) → ClonesEach old new bs ns cs → KeepsTotalsBelow (length old) (held_by bs) (held_by (ns ++ cs))
+  pub each_keeps : (old new : Numbers) (bs ns cs : List (Segment O)) → ClonesEach old new bs ns cs → KeepsTotalsBeside old new (held_by bs) (held_by (ns ++ cs))
   each_keeps old new [] [] [] is n h = keeps_same [] n
   each_keeps old new (b ∷ bs) (x ∷ ns) (c ∷ cs) is n h =
       let mid : Numbers = is.0 in
-      let low : n < length mid = let grows = clone_grows old mid b x c is.1 in omega (arith, grows) in
-      let head : Keeps (held_by (b ∷ [])) (held_by (x ∷ c ∷ [])) n = clone_keeps_totals old mid b x c is.1 n h in
-      let rest = each_keeps mid new bs ns cs is.2 n low in
+      let first = clone_on old mid b x c is.1 in
+      let next = each_on mid new bs ns cs is.2 in
+      let head : Keeps (held_by (b ∷ [])) (held_by (x ∷ c ∷ [])) n = clone_keeps_totals old mid b x c is.1 n (apart_first old mid new n next h) in
+      let rest = each_keeps mid new bs ns cs is.2 n (apart_then old mid new n first h) in
       let both : Keeps (held_by (b ∷ bs)) (held_by (x ∷ c ∷ []) ++ held_by (ns ++ cs)) n = keeps-append n (held_by (b ∷ [])) (held_by bs) (held_by (x ∷ c ∷ [])) (held_by (ns ++ cs)) head rest in
       let turned : Keeps (held_by (x ∷ (c ∷ [] ++ ns))) (held_by (x ∷ (ns ++ c ∷ []))) n = swaps_nodes (x ∷ []) (c ∷ []) ns n in
       let longer = keeps-append n (held_by (x ∷ c ∷ ns)) (held_by cs) (held_by (x ∷ (ns ++ c ∷ []))) (held_by cs) turned (keeps_same (held_by cs) n) in
@@ -383,8 +396,8 @@ module _ {O : Type 0} where
       let same : y.window ≡ x.window = ap (λ (t : Segment O). t.window) all.0.lists in
       (ap (λ (k : ℕ). suc k) more.0, ap (λ bytes. bytes ++ bytes_of ys) same ∙ ap (λ bytes. x.window ++ bytes) more.1)
 
-  pub refused_keeps : (m : ℕ) (xs ys : List (Segment O)) → AllZip Regains xs ys → KeepsTotalsBelow m (held_by xs) (held_by (ys ++ []))
-  refused_keeps m xs ys all n h = keeps_over n _ _ _ (regains_keep xs ys all n) (same_nodes _ _ (sym (append-nil ys)) n)
+  pub refused_keeps : (a b : Numbers) (xs ys : List (Segment O)) → AllZip Regains xs ys → KeepsTotalsBeside a b (held_by xs) (held_by (ys ++ []))
+  refused_keeps a b xs ys all n h = keeps_over n _ _ _ (regains_keep xs ys all n) (same_nodes _ _ (sym (append-nil ys)) n)
 
   pub rejoins_size : (i : ℕ) (before clones after left : List (Segment O)) → RejoinsTo i before clones after left → length clones ≡ i + length left
   rejoins_size i before clones after left r =
@@ -401,5 +414,6 @@ module _ {O : Type 0} where
   pub regains_from : (xs ys zs : List (Segment O)) → xs ≡ zs → AllZip Regains xs ys → AllZip Regains zs ys
   regains_from xs ys zs e all = let P : List (Segment O) → Type 0 = λ w. AllZip Regains w ys in subst P e all
 
-  pub keeps_from : (m : ℕ) (xs ys zs : List (Segment O)) → xs ≡ zs → KeepsTotalsBelow m (held_by xs) (held_by ys) → KeepsTotalsBelow m (held_by zs) (held_by ys)
-  keeps_from m xs ys zs e keeps = let P : List (Segment O) → Type 0 = λ w. KeepsTotalsBelow m (held_by w) (held_by ys) in subst P e keeps
+  pub keeps_from : (a b : Numbers) (xs ys zs : List (Segment O)) → xs ≡ zs → KeepsTotalsBeside a b (held_by xs) (held_by ys)
+      → KeepsTotalsBeside a b (held_by zs) (held_by ys)
+  keeps_from a b xs ys zs e keeps = let P : List (Segment O) → Type 0 = λ w. KeepsTotalsBeside a b (held_by w) (held_by ys) in subst P e keeps

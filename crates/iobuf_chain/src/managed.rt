@@ -2,7 +2,7 @@
 ghost use Rattle.std.specs.Prelude.{◌≡◌, ◌+◌, ◌<◌, ◌≤◌, List, [], ◌∷◌, ◌++◌, None, ◌⊎◌, IfErr, IfOk, OnErr, length};
 ghost use Rattle.buffer_model.specs.Share.{IsManaged};
 ghost use Rattle.buffer_model.specs.Segment.{bytes_of};
-ghost use Rattle.buffer_model.specs.Stake.{KeepsTotalsBelow};
+ghost use Rattle.buffer_model.specs.Stake.{KeepsTotalsBeside};
 ghost use Rattle.buffer_model.specs.Minted.{AddsAtMost};
 ghost use Rattle.iobuf_chain.specs.Accounts.{held_by};
 ghost use Rattle.iobuf_chain.specs.Lists.{Each};
@@ -30,7 +30,7 @@ impl<'a, O: Told> Chain<'a, O> {
         ensures bytes { IfOk result (λ c. bytes_of c ≡ bytes_of self.entry) }
         ensures refused { IfErr result (λ c. c ≡ self.entry) }
         ensures mint { AddsAtMost (length self.entry) mint.old mint.new }
-        ensures totals { KeepsTotalsBelow (length mint.old) (held_by self.entry) (held_by (either_way result)) }
+        ensures totals { KeepsTotalsBeside mint.old mint.new (held_by self.entry) (held_by (either_way result)) }
     {
         let Chain { nodes, room, sum } = self;
         match manage_nodes(nodes, alloc, mint) {

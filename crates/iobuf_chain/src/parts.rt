@@ -1,7 +1,7 @@
 //! Parts that leave a chain.
 ghost use Rattle.std.specs.Prelude.{◌≡◌, ◌+◌, ◌≤◌, ◌<◌, ◌^◌, ◌↔◌, List, [], ◌∷◌, ◌++◌, IsNone, IfNone, IsOk, IfOk, IfSome, OnOk, OnErr, length, take, drop, slice_get, MatchResult};
 ghost use Rattle.buffer_model.specs.Segment.{bytes_of};
-ghost use Rattle.buffer_model.specs.Stake.{KeepsTotals, KeepsTotalsBelow};
+ghost use Rattle.buffer_model.specs.Stake.{KeepsTotals, KeepsTotalsBeside};
 ghost use Rattle.iobuf_chain.specs.Accounts.{held_by, answered, answered_if, cut_off};
 ghost use Rattle.iobuf_chain.specs.Lists.{between, without};
 ghost use Rattle.iobuf_chain.specs.Shares.{CutsFirst, SharesFront};
@@ -96,7 +96,8 @@ impl<'a, O: Told> Chain<'a, O> {
         requires { IfSome (slice_get self.old 0) (λ s. k < length s.window) }
         ensures cut { IfOk result (λ front. CutsFirst k mint.old mint.new self.old front self.new) }
         ensures refused { OnErr result ((self.new ≡ self.old) × (mint.new ≡ mint.old)) }
-        ensures totals { KeepsTotalsBelow (length mint.old) (held_by self.old) (held_by (self.new ++ answered result)) }
+        ensures totals { KeepsTotalsBeside mint.old mint.new (held_by self.old)
+            (held_by (self.new ++ answered result)) }
     {
         let all = self.sum;
         let len = self.nodes.get(0).length();

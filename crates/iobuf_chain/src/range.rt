@@ -4,7 +4,7 @@ ghost use Rattle.std.specs.List.{AllZip};
 ghost use Rattle.std.specs.VecDeque.{deque_capacity};
 ghost use Rattle.buffer_model.specs.Minted.{AddsAtMost};
 ghost use Rattle.buffer_model.specs.Segment.{Segment, bytes_of};
-ghost use Rattle.buffer_model.specs.Stake.{KeepsTotalsBelow};
+ghost use Rattle.buffer_model.specs.Stake.{KeepsTotalsBeside};
 ghost use Rattle.iobuf_chain.specs.Accounts.{held_by, answered};
 ghost use Rattle.iobuf_chain.specs.Copies.{CopiesNoData, IsShareable, WithData};
 ghost use Rattle.iobuf_chain.specs.Cuts.{IsShortRange};
@@ -42,7 +42,8 @@ impl<'a, O: Release> Chain<'a, O> {
         ensures bytes { IfOk result (λ c. bytes_of c ≡ take n (drop at (bytes_of self.old))) }
         ensures refused { OnErr result (AllZip Regains self.old self.new) }
         ensures mint { AddsAtMost (length self.old) mint.old mint.new }
-        ensures totals { KeepsTotalsBelow (length mint.old) (held_by self.old) (held_by (self.new ++ answered result)) }
+        ensures totals { KeepsTotalsBeside mint.old mint.new (held_by self.old)
+            (held_by (self.new ++ answered result)) }
         ensures copies { WithData IsShareable self.old → IfOk result (λ c. CopiesNoData self.old c) }
     {
         let _some = self.elements();

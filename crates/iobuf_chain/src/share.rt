@@ -1,11 +1,12 @@
 //! Chains that are shared.
-ghost use Rattle.std.specs.Prelude.{◌≡◌, ◌+◌, ◌≤◌, ◌<◌, List, [], ◌++◌, IfOk, IfSome, OnErr, OnOk, length, slice_get};
+ghost use Rattle.std.specs.Prelude.{◌≡◌, ℕ, ◌+◌, ◌≤◌, ◌<◌, List, [], ◌++◌, IfOk, IfSome, OnErr, OnOk, length, slice_get};
 ghost use Rattle.std.specs.List.{AllZip};
 ghost use Rattle.std.specs.VecDeque.{deque_capacity};
-ghost use Rattle.buffer_model.specs.Segment.{Segment};
-ghost use Rattle.buffer_model.specs.Stake.{KeepsTotalsBelow};
+ghost use Rattle.buffer_model.specs.Segment.{Segment, bytes_of};
+ghost use Rattle.buffer_model.specs.Minted.{AddsAtMost};
+ghost use Rattle.buffer_model.specs.Stake.{KeepsTotalsBeside};
 ghost use Rattle.iobuf_chain.specs.Accounts.{held_by, answered};
-ghost use Rattle.iobuf_chain.specs.Copies.{CopiesNoData, IsShareable, WithData};
+ghost use Rattle.iobuf_chain.specs.Copies.{CopiesNoData, HasWeight, IsShareable, WithData};
 ghost use Rattle.iobuf_chain.specs.Shares.{AreReturnable, ClonesAt, ClonesEach, ClonesFirst, IsReturnable, Regains, RejoinsAt, RejoinsEach};
 
 use crate::chain::Chain;
@@ -20,11 +21,18 @@ use storage::Release;
 impl<'a, O: Release> Chain<'a, O> {
     /// A second chain with a clone of each node, in order. A wrapped node and one of a weight over 1 share their
     /// bytes with their clones; a node of the weight 1 is copied. A chain of one node takes no memory but for that
-    /// clone. At want of memory the shares that were made are given back and absorbed. O(nodes).
+    /// clone. At want of memory the shares that were made are given back and absorbed. O(nodes). A node that can be
+    /// shared `k + 2` times without a copy, for `k` up to 1,024, can be shared `k + 1` times afterwards (`left`).
     pub fn share_all(&mut self, alloc: Global, mint: &mut Mint) -> Result<Chain<'a, O>, AllocError>
         ensures shares { IfOk result (λ c. ClonesEach mint.old mint.new self.old self.new c) }
+        ensures bytes { IfOk result (λ c. bytes_of c ≡ bytes_of self.old) }
+        ensures kept { bytes_of self.new ≡ bytes_of self.old }
+        ensures left { (k : ℕ) → k ≤ 1024 → WithData (HasWeight (k + 2)) self.old
+            → OnOk result (WithData (HasWeight (k + 1)) self.new) }
         ensures refused { OnErr result (AllZip Regains self.old self.new) }
-        ensures totals { KeepsTotalsBelow (length mint.old) (held_by self.old) (held_by (self.new ++ answered result)) }
+        ensures mint { AddsAtMost (length self.old) mint.old mint.new }
+        ensures totals { KeepsTotalsBeside mint.old mint.new (held_by self.old)
+            (held_by (self.new ++ answered result)) }
         ensures copies { WithData IsShareable self.old → IfOk result (CopiesNoData self.old) }
     {
         let sum = self.sum;
@@ -48,6 +56,7 @@ fn share_nodes<'a, O: Release>(
 ) -> Result<Nodes<IoBuf<'a, O>>, AllocError>
     ensures shares { IfOk result (λ c. ClonesEach mint.old mint.new nodes.old nodes.new c) }
     ensures refused { OnErr result (AllZip Regains nodes.old nodes.new) }
+    ensures mint { AddsAtMost (length nodes.old) mint.old mint.new }
 {
     let count = nodes.len();
     if count == 1 {

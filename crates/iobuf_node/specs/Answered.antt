@@ -1,15 +1,14 @@
 -- What a call that may give a storage back answers.
-use Rattle.std.specs.Prelude.{List, [], ◌∷◌, length, Option, Some, None, Result, Ok, Err}
+use Rattle.std.specs.Prelude.{List, [], ◌∷◌, Option, Some, None, Result, Ok, Err}
 use Rattle.buffer_model.specs.Minted.{Numbers}
-use Rattle.buffer_model.specs.Stake.{Stake, held, KeepsTotalsBelow}
+use Rattle.buffer_model.specs.Stake.{Stake, held, KeepsTotalsBeside}
 use Rattle.buffer_model.specs.Segment.{Segment}
 use Rattle.storage.specs.Back.{stakes_if}
 use Rattle.storage.specs.declared.back.Back.{Back}
 
--- a call that had this node, and has these things afterwards, keeps the totals of the storages that were numbered
--- before it
-abbrev pub KeepsFor : {O : Type 0} → Numbers → Segment O → List (Stake O) → Type 0
-KeepsFor old before exit = KeepsTotalsBelow (length old) (held before.share ∷ []) exit
+-- a call that had this node, and has these things afterwards, keeps totals beside what its mint numbered in it
+abbrev pub KeepsFor : {O : Type 0} → Numbers → Numbers → Segment O → List (Stake O) → Type 0
+KeepsFor old new before exit = KeepsTotalsBeside old new (held before.share ∷ []) exit
 
 -- what a call has of storages by its answer
 abbrev pub answered : {O E : Type 0} → Result (Option (Back O)) E → List (Stake O)

@@ -20,7 +20,7 @@ impl<'a, O: Told> IoBuf<'a, O> {
         ensures clone { IfOk result (Clones mint.old mint.new self.old self.new) }
         ensures wrapped { self.old.share.number ≡ None → IsOk result }
         ensures refused { OnErr result ((self.new ≡ self.old) × (mint.new ≡ mint.old)) }
-        ensures totals { KeepsFor mint.old self.old (held self.new.share ∷ cloned result) }
+        ensures totals { KeepsFor mint.old mint.new self.old (held self.new.share ∷ cloned result) }
     {
         match self.again() {
             Some(node) => Ok(node),
@@ -74,7 +74,7 @@ impl<'a, O: Told> IoBuf<'a, O> {
         ensures wrapped { self.entry.share.number ≡ None → IfOk result (λ n. MovesOut mint.old mint.new self.entry n) }
         ensures refused { IfErr result (λ n. n ≡ self.entry) }
         ensures refused_mint { OnErr result (mint.new ≡ mint.old) }
-        ensures totals { KeepsFor mint.old self.entry (either_way result) }
+        ensures totals { KeepsFor mint.old mint.new self.entry (either_way result) }
     {
         if self.number().is_some() {
             return Ok(self.kept());

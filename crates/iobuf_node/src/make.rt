@@ -3,7 +3,7 @@ ghost use Rattle.std.specs.Prelude.{◌≡◌, ◌+◌, ◌≤◌, ◌<◌, ◌^
 ghost use Rattle.raw_block.specs.Spans.{with_span};
 ghost use Rattle.buffer_model.specs.Share.{own, user, lent, tagged, IsAlone};
 ghost use Rattle.buffer_model.specs.Segment.{between_rooms, whole_window, cut};
-ghost use Rattle.buffer_model.specs.Stake.{held, KeepsTotalsBelow};
+ghost use Rattle.buffer_model.specs.Stake.{held, KeepsTotalsBeside};
 ghost use Rattle.buffer_model.specs.Minted.{Adds, IsNew};
 ghost use Rattle.storage.specs.Held.{with_bytes};
 ghost use Rattle.storage.specs.Made.{Makes};
@@ -25,7 +25,7 @@ impl<O: Told> IoBuf<'static, O> {
         ensures node { IfOk result (λ n. n ≡ between_rooms 0 cap [] n.share) }
         ensures storage { IfOk result (λ n. IsNew mint.old mint.new own n.share) }
         ensures mint { MatchResult result (λ _. Adds 1 mint.old mint.new) (λ _. mint.new ≡ mint.old) }
-        ensures totals { IfOk result (λ n. KeepsTotalsBelow (length mint.old) [] (held n.share ∷ [])) }
+        ensures totals { IfOk result (λ n. KeepsTotalsBeside mint.old mint.new [] (held n.share ∷ [])) }
     {
         match Managed::own(alloc, cap, mint) {
             Ok(hold) => Ok(on(hold, 0, 0)),
@@ -46,7 +46,7 @@ impl<O: Told> IoBuf<'static, O> {
         ensures node { IfOk result (λ n. n ≡ between_rooms head tail bytes.now n.share) }
         ensures storage { IfOk result (λ n. IsNew mint.old mint.new own n.share) }
         ensures mint { MatchResult result (λ _. Adds 1 mint.old mint.new) (λ _. mint.new ≡ mint.old) }
-        ensures totals { IfOk result (λ n. KeepsTotalsBelow (length mint.old) [] (held n.share ∷ [])) }
+        ensures totals { IfOk result (λ n. KeepsTotalsBeside mint.old mint.new [] (held n.share ∷ [])) }
     {
         match roomed(alloc, bytes, head, tail, mint) {
             Ok(hold) => Ok(on(hold, head, bytes.len())),
@@ -66,7 +66,7 @@ impl<O: Told> IoBuf<'static, O> {
         ensures storage { IfOk result (λ n. IsNew mint.old mint.new (user owner) n.share) }
         ensures mint { MatchResult result (λ _. Adds 1 mint.old mint.new) (λ _. mint.new ≡ mint.old) }
         ensures refused { IfErr result (λ back. back ≡ (bytes, owner)) }
-        ensures totals { IfOk result (λ n. KeepsTotalsBelow (length mint.old) [] (held n.share ∷ [])) }
+        ensures totals { IfOk result (λ n. KeepsTotalsBeside mint.old mint.new [] (held n.share ∷ [])) }
     {
         let len = bytes.len();
         match Managed::user(alloc, bytes, owner, mint) {
@@ -87,7 +87,7 @@ impl<O: Told> IoBuf<'static, O> {
         ensures storage { IfOk result (λ n. IsNew mint.old mint.new (tagged tag) n.share) }
         ensures mint { MatchResult result (λ _. Adds 1 mint.old mint.new) (λ _. mint.new ≡ mint.old) }
         ensures refused { IfErr result (λ b. b ≡ bytes) }
-        ensures totals { IfOk result (λ n. KeepsTotalsBelow (length mint.old) [] (held n.share ∷ [])) }
+        ensures totals { IfOk result (λ n. KeepsTotalsBeside mint.old mint.new [] (held n.share ∷ [])) }
     {
         let len = bytes.len();
         match Managed::tagged(alloc, bytes, tag, mint) {
@@ -109,7 +109,7 @@ impl<O: Told> IoBuf<'static, O> {
         ensures storage { IfOk result (λ n. IsNew mint.old mint.new (lent block.number) n.share) }
         ensures mint { MatchResult result (λ _. Adds 1 mint.old mint.new) (λ _. mint.new ≡ mint.old) }
         ensures refused { IfErr result (λ b. b ≡ block) }
-        ensures totals { IfOk result (λ n. KeepsTotalsBelow (length mint.old) [] (held n.share ∷ [])) }
+        ensures totals { IfOk result (λ n. KeepsTotalsBeside mint.old mint.new [] (held n.share ∷ [])) }
     {
         match Managed::lent(alloc, block, mint) {
             Ok(hold) => Ok(on(hold, 0, used)),

@@ -32,7 +32,7 @@ impl<'a, O: Release> IoBuf<'a, O> {
         ensures room { HasRoom head tail self.old → result ≡ Ok None }
         ensures back { IfOk result (λ b. IfSome b (GivesBack O.runs O.last (hold_of self.old))) }
         ensures refused { OnErr result ((self.new ≡ self.old) × (mint.new ≡ mint.old)) }
-        ensures totals { KeepsFor mint.old self.old (held self.new.share ∷ answered result) }
+        ensures totals { KeepsFor mint.old mint.new self.old (held self.new.share ∷ answered result) }
     {
         let before = self.headroom();
         let after = self.tailroom();
@@ -86,7 +86,7 @@ impl<'a, O: Release> IoBuf<'a, O> {
         ensures window { OnOk result (MovesOut mint.old mint.new self.old self.new) }
         ensures back { IfOk result (λ b. IfSome b (GivesBack O.runs O.last (hold_of self.old))) }
         ensures refused { OnErr result ((self.new ≡ self.old) × (mint.new ≡ mint.old)) }
-        ensures totals { KeepsFor mint.old self.old (held self.new.share ∷ answered result) }
+        ensures totals { KeepsFor mint.old mint.new self.old (held self.new.share ∷ answered result) }
     {
         match self.duplicate(alloc, mint) {
             Ok(node) => Ok(Some(self.renew(node))),
@@ -107,7 +107,7 @@ impl<'a, O: Release> IoBuf<'a, O> {
         ensures window { IfOk result (λ b. IfSome b (λ _. MovesOut mint.old mint.new self.old self.new)) }
         ensures back { IfOk result (λ b. IfSome b (GivesBack O.runs O.last (hold_of self.old))) }
         ensures refused { OnErr result (StaysShared self.old self.new × (mint.new ≡ mint.old)) }
-        ensures totals { KeepsFor mint.old self.old (held self.new.share ∷ answered result) }
+        ensures totals { KeepsFor mint.old mint.new self.old (held self.new.share ∷ answered result) }
     {
         match self.standing() {
             Standing::Sole => Ok(None),
@@ -127,7 +127,7 @@ impl<'a, O: Release> IoBuf<'a, O> {
         ensures window { IfOk result (λ b. IfSome b (λ _. MovesOut mint.old mint.new self.old self.new)) }
         ensures back { IfOk result (λ b. IfSome b (GivesBack O.runs O.last (hold_of self.old))) }
         ensures refused { OnErr result ((self.new ≡ self.old) × (mint.new ≡ mint.old)) }
-        ensures totals { KeepsFor mint.old self.old (held self.new.share ∷ answered result) }
+        ensures totals { KeepsFor mint.old mint.new self.old (held self.new.share ∷ answered result) }
     {
         if self.whole() {
             return Ok(None);

@@ -93,6 +93,7 @@ impl<P> Receipt<P> {
         ensures sum { result ≡ tally self.table self.number (self.weight + other.weight) (self.lasts + other.lasts) }
         ensures full { result.weight ≡ full → result.lasts ≡ 1 }
         ensures most { result.weight ≤ full }
+        ensures lasts { result.lasts ≤ 1 }
     {
         let Receipt {
             word,

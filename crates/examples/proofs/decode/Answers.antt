@@ -9,7 +9,7 @@ use Rattle.examples.proofs.decode.Goals as goal
 
 pub feed_copy-requires-clause-room : goal.feed_copy-requires-clause-room
 feed_copy-requires-clause-room g c =
-    let laws = g.met.D.Decoder g.world.𝓛 g.world.𝓜 g.world.𝓡 ((λ s x. x), (λ x. x), (λ x. x), λ x. x) in
+    let laws = g.met.D.Decoder in
     let fed = laws.counted c.pieces.decoder _ c.pieces.invariant.stands in
     let some = length-flat_map-take (λ (p : Bor (List ℕ)). p.now) c.args.pieces.now c.pieces.bytes-index (record { ref_ptr = (0, 0); now = [] }) c.pieces-test.true in
     omega (arith, some, fed.0, c.requires.room)
@@ -40,7 +40,7 @@ returns-clause-units g c =
 -- what stands for some bytes is alive
 pub returns-in_err-feed_copy-clause-alive : goal.returns-in_err-feed_copy-clause-alive
 returns-in_err-feed_copy-clause-alive g c is =
-    let laws = g.met.D.Decoder g.world.𝓛 g.world.𝓜 g.world.𝓡 ((λ s x. x), (λ x. x), (λ x. x), λ x. x) in
+    let laws = g.met.D.Decoder in
     let was : IsErrOf c.feed_copy.result Dead = search rules in
     let fed = laws.counted c.pieces.decoder _ c.pieces.invariant.stands in
     let dead = c.feed_copy.ensures.dead was in
@@ -48,7 +48,7 @@ returns-in_err-feed_copy-clause-alive g c is =
 
 pub returns-in_err-end-clause-alive : goal.returns-in_err-end-clause-alive
 returns-in_err-end-clause-alive g c is =
-    let laws = g.met.D.Decoder g.world.𝓛 g.world.𝓜 g.world.𝓡 ((λ s x. x), (λ x. x), (λ x. x), λ x. x) in
+    let laws = g.met.D.Decoder in
     let was : IsErrOf c.end.result Dead = search rules in
     let fed = laws.counted c.pieces.decoder _ c.pieces.invariant.stands in
     let dead = c.end.ensures.dead.0 was in

@@ -1,5 +1,5 @@
 use Rattle.std.proofs.Common.{refl, arith}
-use Rattle.chain_unshare.proofs.Splitting.{between_some, empty_beside}
+use Rattle.chain_unshare.proofs.Splitting.{between_some, empty_beside, empty_instead}
 use Rattle.chain_unshare.proofs.front.split_between.Goals as goal
 
 pub returns-then-i-eq0-clause-totals : goal.returns-then-i-eq0-clause-totals
@@ -11,3 +11,7 @@ returns-clause-parts g c =
 
 pub returns-clause-totals : goal.returns-clause-totals
 returns-clause-totals g c = λ n h. c.in_ok-front.ensures.totals n
+
+pub returns-then-i-elements-clause-totals : goal.returns-then-i-elements-clause-totals
+returns-then-i-elements-clause-totals g c =
+    empty_instead _ _ c.args.c.now c.in_ok-rest.rest c.replace.new.dest c.replace.result c.in_ok-rest.ensures.chain c.replace.ensures.after c.replace.ensures.value

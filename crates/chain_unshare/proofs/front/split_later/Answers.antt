@@ -25,7 +25,7 @@ returns-in_default-clause-refused g c =
 
 pub returns-in_default-clause-totals : goal.returns-in_default-clause-totals
 returns-in_default-clause-totals g c =
-    refused_keeps (length c.args.mint.now) c.args.c.now c.swap_node.new.self
+    refused_keeps c.args.mint.now _ c.args.c.now c.swap_node.new.self
     (back_in c.args.i c.args.c.now c.swap_node-node.new.self c.swap_node.new.self c.wrap.result c.swap_node-node.result c.clone_one.new.self
     c.swap_node-node.ensures.old c.swap_node-node.ensures.new c.swap_node.ensures.new (regains_same _ _ c.in_default.ensures.refused.0))
 
@@ -93,7 +93,7 @@ returns-in-Err-clause-refused g c =
 pub returns-in-Err-clause-totals : goal.returns-in-Err-clause-totals
 returns-in-Err-clause-totals g c =
     let share = ap (λ (t : Segment g.row.O.Denot). t.share) (c.in-Err.ensures.front.0 ∙ c.trim_end.ensures.window) in
-    refused_keeps (length c.args.mint.now) c.args.c.now c.swap_node-in-Err.new.self
+    refused_keeps c.args.mint.now _ c.args.c.now c.swap_node-in-Err.new.self
     (back_in c.args.i c.args.c.now c.cut_before.new.self c.swap_node-in-Err.new.self c.wrap.result c.swap_node-node.result c.rejoin.new.node
     c.swap_node-node.ensures.old (c.in-Err.ensures.front.1 ∙ c.swap_node-node.ensures.new) c.swap_node-in-Err.ensures.new
     (clone_regains _ _ _ _ c.in-Ok.clone _ c.in-Ok.ensures.clone (rejoins_as _ _ _ c.in-Ok.clone.share share c.rejoin.ensures)))

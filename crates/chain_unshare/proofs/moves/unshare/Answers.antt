@@ -15,7 +15,7 @@ returns-in_err-copies-clause-whole g c = λ all.
     absurd (let none = ap length (all_whole _ all) in let count = c.shared_count-count.ensures in omega arith)
 
 pub returns-in_err-copies-clause-totals : goal.returns-in_err-copies-clause-totals
-returns-in_err-copies-clause-totals g c = refused_totals _ _ _ _ refl c.from_residual-in_err-copies.ensures.0
+returns-in_err-copies-clause-totals g c = refused_totals _ _ _ _ _ refl c.from_residual-in_err-copies.ensures.0
 
 pub move_in-requires-clause-room : goal.move_in-requires-clause-room
 move_in-requires-clause-room g c =

@@ -1,6 +1,6 @@
 use Rattle.std.proofs.Common.{◌≡◌, ◌-◌, length, take, ap, sym, ◌∙◌, arith}
 use Rattle.buffer_model.specs.Segment.{bytes_of}
-use Rattle.buffer_model.proofs.Totals.{keeps_below_then}
+use Rattle.buffer_model.proofs.Totals.{keeps_beside_then}
 use Rattle.iobuf_chain.proofs.Copied.{each_before}
 use Rattle.frame_rule.specs.Units.{nodes_in}
 use Rattle.frame_rule.proofs.Inner.{inner_parts}
@@ -8,7 +8,7 @@ use Rattle.frame_rule.proofs.Moving.{cuts_later, if_ok, refused_totals}
 use Rattle.frame_rule.proofs.cuts.cut_frame.Goals as goal
 
 pub returns-in_err-drop_front-clause-totals : goal.returns-in_err-drop_front-clause-totals
-returns-in_err-drop_front-clause-totals c = refused_totals _ _ _ _ c.from_residual.result c.from_residual.ensures.0 c.in_err-drop_front.ensures.moves.totals
+returns-in_err-drop_front-clause-totals c = refused_totals _ _ _ _ _ c.from_residual.result c.from_residual.ensures.0 c.in_err-drop_front.ensures.moves.totals
 
 pub returns-clause-frame : goal.returns-clause-frame
 returns-clause-frame c =
@@ -18,7 +18,7 @@ returns-clause-frame c =
 
 pub returns-clause-totals : goal.returns-clause-totals
 returns-clause-totals c =
-    keeps_below_then _ _ _ _ _ c.in_ok-drop_front.ensures.moves.mint.1 c.in_ok-drop_front.ensures.moves.totals c.cut_content-2.ensures.totals
+    keeps_beside_then _ _ _ _ _ _ c.in_ok-drop_front.ensures.moves.mint c.cut_content-2.ensures.mint c.in_ok-drop_front.ensures.moves.totals c.cut_content-2.ensures.totals
 
 pub returns-clause-nodes : goal.returns-clause-nodes
 returns-clause-nodes c =

@@ -4,7 +4,7 @@ use Rattle.frame_rule.proofs.Tight.{splits_tight, tight_as, tight_one}
 use Rattle.frame_rule.proofs.cuts.cut_front.Goals as goal
 
 pub returns-then-k-eq0-clause-totals : goal.returns-then-k-eq0-clause-totals
-returns-then-k-eq0-clause-totals c = beside_nothing _ _ _ c.nothing.ensures
+returns-then-k-eq0-clause-totals c = beside_nothing _ _ _ _ c.nothing.ensures
 
 pub returns-then-k-eq0-clause-nodes : goal.returns-then-k-eq0-clause-nodes
 returns-then-k-eq0-clause-nodes c = record {

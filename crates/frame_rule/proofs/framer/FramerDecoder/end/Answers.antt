@@ -9,7 +9,7 @@ use Rattle.frame_rule.proofs.Intakes.{alive_as, kept_alone}
 use Rattle.frame_rule.proofs.framer.FramerDecoder.end.Goals as goal
 
 pub returns-clause-totals : goal.returns-clause-totals
-returns-clause-totals g c now n lt =
+returns-clause-totals g c now n =
     let alive : c.self.inside.dead ≡ false = c.if-self.false in
     let was = c.self.invariant.0 alive in
     let is = alive_as g.S.Scanner.codec_of g.S.Scanner.saw g.met.S.Scanner.checked c.self.inside.progress c.self.inside.kept c.self.inside.refused c.self.inside.dead c.args.self.now was.0 alive c.self.view_is in

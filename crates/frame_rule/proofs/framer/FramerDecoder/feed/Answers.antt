@@ -2,7 +2,7 @@ use Rattle.std.proofs.Common.{◌≡◌, ◌≤◌, false, None, Option, List, �
 use Rattle.std.specs.Result.{is_ok}
 use Rattle.storage.specs.declared.release.NoOwner.{NoOwner}
 use Rattle.buffer_model.specs.Segment.{Segment, bytes_of}
-use Rattle.buffer_model.specs.Stake.{KeepsTotalsBelow}
+use Rattle.buffer_model.specs.Stake.{KeepsTotalsBeside}
 use Rattle.iobuf_chain.specs.Accounts.{held_by}
 use Rattle.frame_head.specs.Codecs.{most_kept}
 use Rattle.frame_rule.specs.Framing.{FitsBehind, Framing}
@@ -34,9 +34,9 @@ returns-in-Ok-clause-totals g c now =
     let was = c.self.invariant.0 alive in
     let is = alive_as g.S.Scanner.codec_of g.S.Scanner.saw g.met.S.Scanner.checked c.self.inside.progress c.self.inside.kept c.self.inside.refused c.self.inside.dead c.args.self.now was.0 alive c.self.view_is in
     let P : Framing g.row.S.Denot NoOwner → Type 0 =
-    λ d. KeepsTotalsBelow (length c.args.mint.now) (held_by (d.kept ++ c.args.piece) ++ hauled c.args.haul.now) (held_by (all_kept c.take_in.new.kept c.self.inside.refused) ++ hauled c.take_in.new.haul) in
+    λ d. KeepsTotalsBeside c.args.mint.now c.take_in.new.mint (held_by (d.kept ++ c.args.piece) ++ hauled c.args.haul.now) (held_by (all_kept c.take_in.new.kept c.self.inside.refused) ++ hauled c.take_in.new.haul) in
     let Q : List (Segment NoOwner) → Type 0 =
-    λ w. KeepsTotalsBelow (length c.args.mint.now) (held_by (nodes_if c.self.inside.kept ++ c.args.piece) ++ hauled c.args.haul.now) (held_by w ++ hauled c.take_in.new.haul) in
+    λ w. KeepsTotalsBeside c.args.mint.now c.take_in.new.mint (held_by (nodes_if c.self.inside.kept ++ c.args.piece) ++ hauled c.args.haul.now) (held_by w ++ hauled c.take_in.new.haul) in
     subst P is (subst Q (sym (kept_alone c.take_in.new.kept c.self.inside.refused was.0)) c.in-Ok.ensures.totals)
 
 pub returns-in-Err-clause-totals : goal.returns-in-Err-clause-totals
@@ -45,5 +45,5 @@ returns-in-Err-clause-totals g c now =
     let was = c.self.invariant.0 alive in
     let is = alive_as g.S.Scanner.codec_of g.S.Scanner.saw g.met.S.Scanner.checked c.self.inside.progress c.self.inside.kept c.self.inside.refused c.self.inside.dead c.args.self.now was.0 alive c.self.view_is in
     let P : Framing g.row.S.Denot NoOwner → Type 0 =
-    λ d. KeepsTotalsBelow (length c.args.mint.now) (held_by (d.kept ++ c.args.piece) ++ hauled c.args.haul.now) (held_by (all_kept c.take_in.new.kept c.in-Err.refused) ++ hauled c.take_in.new.haul) in
+    λ d. KeepsTotalsBeside c.args.mint.now c.take_in.new.mint (held_by (d.kept ++ c.args.piece) ++ hauled c.args.haul.now) (held_by (all_kept c.take_in.new.kept c.in-Err.refused) ++ hauled c.take_in.new.haul) in
     subst P is c.in-Err.ensures.totals

@@ -1,8 +1,9 @@
 use Rattle.std.proofs.Common.{refl, arith, ap, sym, ◌∙◌, length, ◌++◌, inr}
 use Rattle.buffer_model.specs.Segment.{bytes_of}
 use Rattle.frame_rule.specs.Hauls.{nodes_if}
-use Rattle.frame_rule.proofs.Intakes.{at_err, at_ok, beside_shares, beside_totals, bytes_front, kept_fed, shares_settled, stands_front, start_shares, start_totals, stops_at, stops_first, stops_last, takes_all, takes_nothing, takes_settled, totals_then}
-use Rattle.buffer_model.proofs.Totals.{keeps_below}
+use Rattle.frame_rule.proofs.Intakes.{at_err, at_ok, beside_shares, beside_totals, bytes_front, kept_fed, shares_settled, stands_front, start_shares, start_totals, stops_at, stops_first, stops_last, takes_all, takes_nothing, takes_settled}
+use Rattle.buffer_model.proofs.Totals.{keeps_any}
+use Rattle.frame_rule.proofs.Moving.{keeps_later}
 use Rattle.iobuf_chain.specs.Copies.{HasData}
 use Rattle.iobuf_chain.proofs.Copied.{each_before}
 use Rattle.frame_rule.proofs.Passing.{no_bytes}
@@ -32,7 +33,7 @@ returns-then-is_err-clause-stops g c =
 
 pub returns-then-is_err-clause-totals : goal.returns-then-is_err-clause-totals
 returns-then-is_err-clause-totals g c =
-    start_totals (length c.args.mint.now) (nodes_if c.args.kept.now ++ c.args.piece) c.in-Ok.joined.0 c.args.haul.now c.args.haul.now _ c.in-Ok.ensures.joined.0 refl c.pass_all.ensures.moves.totals
+    start_totals c.args.mint.now _ (nodes_if c.args.kept.now ++ c.args.piece) c.in-Ok.joined.0 c.args.haul.now c.args.haul.now _ c.in-Ok.ensures.joined.0 refl c.pass_all.ensures.moves.totals
 
 pub returns-in-Ok-settle-clause-took : goal.returns-in-Ok-settle-clause-took
 returns-in-Ok-settle-clause-took g c =
@@ -44,8 +45,8 @@ returns-in-Ok-settle-clause-took g c =
 
 pub returns-in-Ok-settle-clause-totals : goal.returns-in-Ok-settle-clause-totals
 returns-in-Ok-settle-clause-totals g c =
-    totals_then (length c.args.mint.now) _ _ _
-    (start_totals (length c.args.mint.now) (nodes_if c.args.kept.now ++ c.args.piece) c.in-Ok.joined.0 c.args.haul.now c.args.haul.now _ c.in-Ok.ensures.joined.0 refl c.pass_all.ensures.moves.totals)
+    keeps_later c.args.mint.now _ _ _ _
+    (start_totals c.args.mint.now _ (nodes_if c.args.kept.now ++ c.args.piece) c.in-Ok.joined.0 c.args.haul.now c.args.haul.now _ c.in-Ok.ensures.joined.0 refl c.pass_all.ensures.moves.totals)
     c.in-Ok-settle.ensures.totals
 
 pub returns-in-Ok-settle-clause-shares : goal.returns-in-Ok-settle-clause-shares
@@ -65,8 +66,8 @@ returns-in-Err-settle-clause-stops g c =
 
 pub returns-in-Err-settle-clause-totals : goal.returns-in-Err-settle-clause-totals
 returns-in-Err-settle-clause-totals g c =
-    totals_then (length c.args.mint.now) _ _ _
-    (start_totals (length c.args.mint.now) (nodes_if c.args.kept.now ++ c.args.piece) c.in-Ok.joined.0 c.args.haul.now c.args.haul.now _ c.in-Ok.ensures.joined.0 refl c.pass_all.ensures.moves.totals)
+    keeps_later c.args.mint.now _ _ _ _
+    (start_totals c.args.mint.now _ (nodes_if c.args.kept.now ++ c.args.piece) c.in-Ok.joined.0 c.args.haul.now c.args.haul.now _ c.in-Ok.ensures.joined.0 refl c.pass_all.ensures.moves.totals)
     c.in-Err-settle.ensures.totals
 
 pub returns-in_default-clause-took : goal.returns-in_default-clause-took
@@ -76,7 +77,7 @@ returns-in_default-clause-took g c =
 
 pub returns-in_default-clause-totals : goal.returns-in_default-clause-totals
 returns-in_default-clause-totals g c =
-    keeps_below (length c.args.mint.now) _ _ (beside_totals (nodes_if c.args.kept.now) c.args.piece c.args.haul.now c.give_back.new.haul c.in_default.ensures.moved.totals)
+    keeps_any c.args.mint.now _ _ _ (beside_totals (nodes_if c.args.kept.now) c.args.piece c.args.haul.now c.give_back.new.haul c.in_default.ensures.moved.totals)
 
 pub returns-in_default-clause-shares : goal.returns-in_default-clause-shares
 returns-in_default-clause-shares g c heavy = beside_shares (nodes_if c.args.kept.now) c.args.piece _ _ heavy (ap (λ v. v.items) c.give_back.ensures.units)

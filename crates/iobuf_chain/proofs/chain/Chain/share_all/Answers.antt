@@ -3,6 +3,7 @@ use Rattle.buffer_model.specs.Segment.{bytes_of}
 use Rattle.iobuf_chain.proofs.Rejoined.{regains_each}
 use Rattle.iobuf_chain.proofs.Shared.{each_sum, each_keeps, regains_sum, regains_from, keeps_from, refused_keeps}
 use Rattle.iobuf_chain.proofs.Copied.{clones_copy_nothing, copies_from, with_data_from}
+use Rattle.iobuf_chain.proofs.Lasting.{each_left}
 use Rattle.iobuf_chain.proofs.chain.Chain.share_all.Goals as goal
 
 pub returns-in_default-clause-refused : goal.returns-in_default-clause-refused
@@ -39,16 +40,29 @@ invariant_of-self-2 g c =
     (omega arith, omega arith, c.self.invariant.2, omega arith)
 
 pub returns-clause-totals : goal.returns-clause-totals
-returns-clause-totals g c = keeps_from (length c.args.mint.now) _ _ _ c.self.view_is (each_keeps _ _ _ _ _ c.in-Ok-share_nodes.ensures.shares)
+returns-clause-totals g c = keeps_from c.args.mint.now _ _ _ _ c.self.view_is (each_keeps _ _ _ _ _ c.in-Ok-share_nodes.ensures.shares)
 
 pub returns-in-Err-clause-refused : goal.returns-in-Err-clause-refused
 returns-in-Err-clause-refused g c = regains_from _ _ _ c.self.view_is c.in-Err.ensures.refused
 
 pub returns-in-Err-clause-totals : goal.returns-in-Err-clause-totals
-returns-in-Err-clause-totals g c = keeps_from (length c.args.mint.now) _ _ _ c.self.view_is (refused_keeps (length c.args.mint.now) _ _ c.in-Err.ensures.refused)
+returns-in-Err-clause-totals g c = keeps_from c.args.mint.now _ _ _ _ c.self.view_is (refused_keeps c.args.mint.now _ _ _ c.in-Err.ensures.refused)
 
 pub returns-clause-copies : goal.returns-clause-copies
 returns-clause-copies g c =
     λ may.
     copies_from _ _ _ c.self.view_is
     (clones_copy_nothing _ _ _ _ _ c.in-Ok-share_nodes.ensures.shares (with_data_from _ _ _ c.self.view_is may))
+
+pub returns-clause-bytes : goal.returns-clause-bytes
+returns-clause-bytes g c = (each_sum _ _ _ _ _ c.in-Ok-share_nodes.ensures.shares).3 ∙ ap bytes_of c.self.view_is
+
+pub returns-clause-kept : goal.returns-clause-kept
+returns-clause-kept g c = (each_sum _ _ _ _ _ c.in-Ok-share_nodes.ensures.shares).2 ∙ ap bytes_of c.self.view_is
+
+pub returns-in-Err-clause-kept : goal.returns-in-Err-clause-kept
+returns-in-Err-clause-kept g c = (regains_sum _ _ c.in-Err.ensures.refused).1 ∙ ap bytes_of c.self.view_is
+
+pub returns-clause-left : goal.returns-clause-left
+returns-clause-left g c =
+    λ k few enough. each_left k _ _ _ _ _ c.in-Ok-share_nodes.ensures.shares few (with_data_from _ _ _ c.self.view_is enough)

@@ -33,4 +33,4 @@ pub returns-in-Ok-share_some-clause-copies : goal.returns-in-Ok-share_some-claus
 returns-in-Ok-share_some-clause-copies g c = λ may. some_copy_nothing _ _ _ _ _ _ _ _ c.in-Ok-share_some.ensures.shares may
 
 pub returns-in-Err-share_some-clause-totals : goal.returns-in-Err-share_some-clause-totals
-returns-in-Err-share_some-clause-totals g c = refused_keeps (length c.args.mint.now) _ _ c.in-Err-share_some.ensures.refused
+returns-in-Err-share_some-clause-totals g c = refused_keeps c.args.mint.now _ _ _ c.in-Err-share_some.ensures.refused
