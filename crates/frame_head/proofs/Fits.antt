@@ -11,7 +11,7 @@ tail P x xs all = λ k d within. all (suc k) d (omega arith)
 pub front : {X : Type 0} (P : X → Type 0) (x : X) (xs : List X) → All P (x ∷ xs) → P x
 front P x xs all = all 0 x (omega arith)
 
-all_reversed : (xs : List ℕ) → All (λ b. b < 256) xs → All (λ b. b < 256) (reverse xs)
+pub all_reversed : (xs : List ℕ) → All (λ b. b < 256) xs → All (λ b. b < 256) (reverse xs)
 all_reversed xs all = λ k d within.
     let inside : k < length xs = omega (arith, length-reverse xs) in
     let e : slice_index_or (reverse xs) k d ≡ slice_index_or xs (length xs - 1 - k) d = get_or-reverse xs k d inside in

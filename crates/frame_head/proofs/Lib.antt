@@ -7,6 +7,11 @@ pub mod FirstEnding
 pub mod Cutting
 pub mod Delimiters
 pub mod Fits
+pub mod Fields
+pub mod Written
 pub mod Shortness
 pub mod Cases
 pub mod Bounds
+pub mod Back
+pub mod BackLengths
+pub mod BackEndings

@@ -6,6 +6,10 @@ pub mod Longest
 pub mod Codecs
 pub mod Units
 pub mod Outs
+pub mod Framed
 pub mod Bounds
 pub mod Laws
+pub mod FramedLaws
+pub mod ReadingBack
 pub mod Examples
+pub mod FramedExamples

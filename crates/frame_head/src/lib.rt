@@ -6,6 +6,9 @@
 mod checks;
 mod codecs;
 mod copies;
+#[cfg(test)]
+mod header_tests;
+mod headers;
 pub mod laws;
 mod lengths;
 mod marks;
@@ -17,6 +20,7 @@ mod tests;
 
 pub use checks::CodecFault;
 pub use codecs::{Codec, FaultKind, LineEnd, check, longest};
+pub use headers::{LengthHead, ending, fits_field, header};
 pub use lengths::most_in_field;
 pub use marks::{Mark, Marks};
 pub use out::{Out, check_out};
