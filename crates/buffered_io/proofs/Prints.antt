@@ -1,5 +1,5 @@
 -- Writings and printings, one after another.
-use Rattle.std.proofs.Common.{◌≡◌, ℕ, ◌+◌, ◌-◌, ◌≤◌, Bool, true, false, List, [], ◌++◌, length, take, drop, length-drop, refl, sym, ap, ◌∙◌, subst, append_assoc, append-nil, arith}
+use Rattle.std.proofs.Common.{◌≡◌, ℕ, ◌+◌, ◌-◌, ◌<◌, Bool, true, false, List, [], ◌++◌, length, take, drop, length-append, length-drop, refl, sym, ap, ◌∙◌, subst, append_assoc, append-nil, arith}
 use Rattle.std.specs.Prelude.{not}
 use Rattle.std.specs.Bool.{MatchBool}
 use Rattle.std.proofs.Math.Seq.{take-add}
@@ -33,6 +33,7 @@ wrote_broke {w} {v} {u} {xs} {ys} a b = record {
   front = xs ++ b.front;
   lost = b.lost;
   both = ap (λ t. xs ++ t) b.both ∙ sym (append_assoc xs b.front b.lost);
+  some = b.some;
   state = λ i. record {
     written = (ap (λ (s : SinkState). s.written) b.state ∙ ap (λ (s : SinkState). grown s.written b.front) a.state ∙ grown_twice w.written xs b.front) i;
     faults = (ap (λ (s : SinkState). s.faults) b.state ∙ ap (λ (s : SinkState). counted s.faults) a.state) i;
@@ -47,6 +48,7 @@ broke_longer {w} {v} {xs} ys b = record {
   front = b.front;
   lost = b.lost ++ ys;
   both = ap (λ t. t ++ ys) b.both ∙ append_assoc b.front b.lost ys;
+  some = omega (arith, b.some, length-append b.lost ys);
   state = b.state;
   after = b.after;
 }
@@ -65,11 +67,12 @@ took_wrote w v xs e = record {
 }
 
 -- a call that failed
-dropped_broke : (w v : SinkState) (xs : List ℕ) → WriteFailed w v → Broke xs w v
-dropped_broke w v xs e = record {
+dropped_broke : (w v : SinkState) (xs : List ℕ) → 0 < length xs → WriteFailed w v → Broke xs w v
+dropped_broke w v xs some e = record {
   front = [];
   lost = xs;
   both = refl;
+  some = some;
   state = λ i. record {
     written = (ap (λ (s : SinkState). s.written) e ∙ sym (grown_nothing w.written)) i;
     faults = ap (λ (s : SinkState). s.faults) e i;
@@ -86,9 +89,9 @@ wrote_further w v u text at n first more =
     same_wrote (ap (λ x. take at text ++ take n x) rest ∙ sym (take-add at n text)) (wrote_both first (took_wrote v u _ more))
 
 -- the next piece of a text wasn't taken
-pub broke_further : (w v u : SinkState) (text : List ℕ) (at : ℕ) → at ≤ length text → Wrote (take at text) w v → WriteFailed v u → Broke text w u
-broke_further w v u text at within first failed =
-    same_broke (take-append-drop at text) (wrote_broke first (dropped_broke v u (drop at text) failed))
+pub broke_further : (w v u : SinkState) (text : List ℕ) (at : ℕ) → at < length text → Wrote (take at text) w v → WriteFailed v u → Broke text w u
+broke_further w v u text at below first failed =
+    same_broke (take-append-drop at text) (wrote_broke first (dropped_broke v u (drop at text) (omega (arith, below, length-drop at text)) failed))
 
 differ : {b : Bool} → b ≡ true → b ≡ false → ⊥
 differ {b} s t = cc

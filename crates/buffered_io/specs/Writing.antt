@@ -1,5 +1,5 @@
 -- Text on its way to a sink, and what comes of writing it.
-use Rattle.std.specs.Prelude.{◌≡◌, ℕ, Bool, true, false, List, [], ◌∷◌, ◌++◌, decimal}
+use Rattle.std.specs.Prelude.{◌≡◌, ℕ, ◌+◌, ◌<◌, ◌≤◌, Bool, true, false, List, [], ◌∷◌, ◌++◌, decimal, length}
 use Rattle.relay_ports.specs.States.{SinkState}
 use Rattle.relay_ports.specs.Told.{counted, grown}
 
@@ -8,11 +8,12 @@ pub record Wrote (text : List ℕ) (w v : SinkState) : Type 0 where
   pub state : v ≡ record w { written = grown w.written text; after = v.after }
   pub after : w.faults ≡ 0 → v.after ≡ w.after
 
--- a sink took the front of a text, and then a call failed, which was the last
+-- a sink took the front of a text, and then a call failed, which was the last; what is lost isn't empty
 pub record Broke (text : List ℕ) (w v : SinkState) : Type 0 where
   pub front : List ℕ
   pub lost : List ℕ
   pub both : text ≡ front ++ lost
+  pub some : 0 < length lost
   pub state : v ≡ record w { written = grown w.written front; faults = counted w.faults; after = v.after }
   pub after : w.faults ≡ 0 → v.after ≡ w.after
 
@@ -20,6 +21,10 @@ pub record Broke (text : List ℕ) (w v : SinkState) : Type 0 where
 pub record Waiting : Type 0 where
   pub text : List ℕ
   pub failed : Bool
+
+-- a printer's room has place for so many bytes more
+abbrev pub HasRoom : ℕ → Waiting → Type 0
+HasRoom n p = length p.text + n ≤ 65536
 
 -- a printer and the sink to which its text goes
 pub record Outlet : Type 0 where

@@ -7,7 +7,7 @@ mod texts;
 mod writing;
 
 pub use printer::Printer;
-pub use reading::{Filled, Stop, fill, probe, read_block};
+pub use reading::{Filled, Stop, fill, probe};
 pub use writing::write_all;
 
 #[cfg(test)]

@@ -1,7 +1,7 @@
-ghost use Rattle.std.specs.Prelude.{◌≡◌, ◌+◌, ◌*◌, ◌≤◌, false, [], length, decimal, IfOk};
+ghost use Rattle.std.specs.Prelude.{◌≡◌, ◌*◌, ◌≤◌, false, [], length, decimal, IfOk};
 ghost use Rattle.hex.specs.Hex.{encode_lower};
 ghost use Rattle.relay_ports.specs.States.{SinkState};
-ghost use Rattle.buffered_io.specs.Writing.{PrintsTo, outlet, entry_text};
+ghost use Rattle.buffered_io.specs.Writing.{HasRoom, PrintsTo, outlet, entry_text};
 
 use crate::texts::{write_bytes, write_decimal, write_entry, write_hexadecimal};
 use crate::writing::write_all;
@@ -14,8 +14,9 @@ const ROOM: usize = 65_536;
 
 /// Text on its way to a sink, gathered into few large writes.
 ///
-/// It takes 64 KiB when it is made, and no memory after that. Each call is linear in what it prints. Once a write has
-/// failed nothing more is printed, and the sink isn't called again.
+/// It takes 64 KiB when it is made, and no memory after that. Each call is linear in what it prints. The sink is called
+/// where there is no room, and by `flush`. Once a write has failed nothing more is printed, and the sink isn't called
+/// again.
 #[derive(Debug, Drop)]
 pub struct Printer {
     room: Vec<u8>,
@@ -56,7 +57,8 @@ impl Printer {
     /// Prints bytes as they are.
     #[inline(always)]
     pub fn put<W: Sink>(&mut self, sink: &mut W, bytes: &[u8])
-        ensures { PrintsTo bytes.now (outlet self.old (W.state sink.old)) (outlet self.new (W.state sink.new)) }
+        ensures prints { PrintsTo bytes.now (outlet self.old (W.state sink.old)) (outlet self.new (W.state sink.new)) }
+        ensures waits { HasRoom (length bytes.now) self.old → sink.new ≡ sink.old }
     {
         if bytes.len() <= ROOM - self.used {
             self.keep(bytes);
@@ -79,21 +81,24 @@ impl Printer {
         }
     }
 
-    /// Prints a number in decimal.
+    /// Prints a number in decimal. It looks for room for 20 digits.
     #[inline]
     pub fn put_decimal<W: Sink>(&mut self, sink: &mut W, n: u64)
-        ensures { PrintsTo (decimal n) (outlet self.old (W.state sink.old)) (outlet self.new (W.state sink.new)) }
+        ensures prints { PrintsTo (decimal n)
+            (outlet self.old (W.state sink.old)) (outlet self.new (W.state sink.new)) }
+        ensures waits { HasRoom 20 self.old → sink.new ≡ sink.old }
     {
         self.make_room(sink, 20);
         self.keep_decimal(n);
     }
 
-    /// Prints a letter and two numbers in decimal, with a space behind each: the head of a line. There is one look for
-    /// room.
+    /// Prints a letter and two numbers in decimal, with a space behind each: the head of a line. It looks
+    /// once for room, for 44 bytes.
     #[inline(always)]
     pub fn put_entry<W: Sink>(&mut self, sink: &mut W, letter: u8, first: u64, second: u64)
-        ensures { PrintsTo (entry_text letter first second)
+        ensures prints { PrintsTo (entry_text letter first second)
             (outlet self.old (W.state sink.old)) (outlet self.new (W.state sink.new)) }
+        ensures waits { HasRoom 44 self.old → sink.new ≡ sink.old }
     {
         self.make_room(sink, 44);
         self.keep_entry(letter, first, second);
@@ -102,8 +107,9 @@ impl Printer {
     /// Prints bytes in lower-case hexadecimal, two digits a byte.
     #[inline]
     pub fn put_hexadecimal<W: Sink>(&mut self, sink: &mut W, bytes: &[u8])
-        ensures { PrintsTo (encode_lower bytes.now)
+        ensures prints { PrintsTo (encode_lower bytes.now)
             (outlet self.old (W.state sink.old)) (outlet self.new (W.state sink.new)) }
+        ensures waits { HasRoom (2 * length bytes.now) self.old → sink.new ≡ sink.old }
     {
         if bytes.len() <= (ROOM - self.used) / 2 {
             self.keep_hexadecimal(bytes);
@@ -143,7 +149,8 @@ impl Printer {
     fn make_room<W: Sink>(&mut self, sink: &mut W, bytes: usize)
         requires { bytes ≤ 65536 }
         ensures prints { PrintsTo [] (outlet self.old (W.state sink.old)) (outlet self.new (W.state sink.new)) }
-        ensures room { length self.new.text + bytes ≤ 65536 }
+        ensures room { HasRoom bytes self.new }
+        ensures waits { HasRoom bytes self.old → sink.new ≡ sink.old }
     {
         if ROOM - self.used < bytes {
             self.write_out(sink);
@@ -163,7 +170,7 @@ impl Printer {
     // Adds bytes for which there is room.
     #[inline(always)]
     fn keep(&mut self, bytes: &[u8])
-        requires { length self.old.text + length bytes.now ≤ 65536 }
+        requires { HasRoom (length bytes.now) self.old }
         ensures { (w : SinkState) → PrintsTo bytes.now (outlet self.old w) (outlet self.new w) }
     {
         if self.failed {
@@ -176,7 +183,7 @@ impl Printer {
     // Adds a number, for which there is room.
     #[inline]
     fn keep_decimal(&mut self, n: u64)
-        requires { length self.old.text + 20 ≤ 65536 }
+        requires { HasRoom 20 self.old }
         ensures { (w : SinkState) → PrintsTo (decimal n) (outlet self.old w) (outlet self.new w) }
     {
         if self.failed {
@@ -188,7 +195,7 @@ impl Printer {
     // Adds a letter and two numbers, for which there is room.
     #[inline]
     fn keep_entry(&mut self, letter: u8, first: u64, second: u64)
-        requires { length self.old.text + 44 ≤ 65536 }
+        requires { HasRoom 44 self.old }
         ensures { (w : SinkState) → PrintsTo (entry_text letter first second)
             (outlet self.old w) (outlet self.new w) }
     {
@@ -201,7 +208,7 @@ impl Printer {
     // Adds bytes in hexadecimal, for which there is room.
     #[inline]
     fn keep_hexadecimal(&mut self, bytes: &[u8])
-        requires { length self.old.text + 2 * length bytes.now ≤ 65536 }
+        requires { HasRoom (2 * length bytes.now) self.old }
         ensures { (w : SinkState) → PrintsTo (encode_lower bytes.now) (outlet self.old w) (outlet self.new w) }
     {
         if self.failed {

@@ -1,8 +1,7 @@
-ghost use Rattle.std.specs.Prelude.{◌≡◌, ◌≤◌, length, take, IfOk, OnErr};
+ghost use Rattle.std.specs.Prelude.{◌≡◌, ◌≤◌, length, take, drop, IfSome};
 ghost use Rattle.buffered_io.specs.Reading.{ReadsBlock, Probes};
 
 use relay_ports::Source;
-use std::alloc::{AllocError, Global};
 
 /// How far a block was filled.
 #[derive(Clone, Copy, Debug, PartialEq, Eq)]
@@ -26,28 +25,14 @@ pub enum Stop {
     Limit,
 }
 
-/// Reads a block of at most `size` bytes, by repeated reads until it is full, the source ends or a read fails.
-///
-/// Where memory is refused nothing is read. It takes one allocation of `size` bytes.
-pub fn read_block<S: Source>(
-    alloc: Global,
-    source: &mut S,
-    size: usize,
-) -> Result<(Vec<u8>, Filled), AllocError>
-    ensures reads { IfOk result (λ r. ReadsBlock r.1 size r.0.items (S.state source.old) (S.state source.new)) }
-    ensures unread { OnErr result (source.new ≡ source.old) }
-{
-    let mut block = vec![in alloc; 0u8; size]?;
-    let (count, filled) = fill(source, &mut block);
-    block.truncate(count);
-    Ok((block, filled))
-}
-
 /// Fills a slice by repeated reads until it is full, the source ends or a read fails, and answers how many bytes came.
+/// A source that tells its bytes leaves the rest of the slice as it was. A source that gives what it is asked for is
+/// called once.
 pub fn fill<S: Source>(source: &mut S, block: &mut [u8]) -> (usize, Filled)
     ensures reads { ReadsBlock result.1 (length block.old) (take result.0 block.new)
         (S.state source.old) (S.state source.new) }
     ensures within { result.0 ≤ length block.old }
+    ensures behind { IfSome (S.state source.old).given (λ _. drop result.0 block.new ≡ drop result.0 block.old) }
 {
     let mut at = 0;
     'pieces: while at < block.len() {

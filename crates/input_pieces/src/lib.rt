@@ -1,11 +1,11 @@
 //! Input that is read in pieces, each straight into the block of a node.
 #![tactic(auto)]
 
-mod pieces;
+mod reader;
 
-pub use buffered_io::Filled;
+pub use buffered_io::{Filled, Stop};
 pub use iobuf_node::IoBuf;
-pub use pieces::read_piece;
+pub use reader::{NoPiece, PieceReader};
 pub use share_count::Mint;
 
 #[cfg(test)]

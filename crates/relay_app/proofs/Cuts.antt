@@ -30,16 +30,17 @@ module _ {D : Type 0} where
   takes_nothing c v = record { state = λ i. record c { fault = fault_after_nothing c.fault i }; prints = prints_nothing (outlet c.waiting v) }
 
   -- one unit more was taken
-  pub takes_more : {us : List FramingUnit} {c : Cutting D} {v : SinkState} (dec : D) (p q : Waiting) (f g : Option StreamFault) (read : ℕ) {u t : SinkState} (unit : FramingUnit)
-      → TakesUnits us c v (record { decoder = dec; waiting = p; fault = f; read = read }) u
+  pub takes_more : {us : List FramingUnit} {c : Cutting D} {v : SinkState} (dec : D) (p q : Waiting) (f g : Option StreamFault) (read held : ℕ) {u t : SinkState} (unit : FramingUnit)
+      → TakesUnits us c v (record { decoder = dec; waiting = p; fault = f; read = read; held = held }) u
       → PrintsTo (unit_line unit) (outlet p u) (outlet q t) → g ≡ fault_after f (unit ∷ [])
-      → TakesUnits (us ++ unit ∷ []) c v (record { decoder = dec; waiting = q; fault = g; read = read }) t
-  takes_more {us} {c} {v} dec p q f g read {u} {t} unit takes prints fault = record {
+      → TakesUnits (us ++ unit ∷ []) c v (record { decoder = dec; waiting = q; fault = g; read = read; held = held }) t
+  takes_more {us} {c} {v} dec p q f g read held {u} {t} unit takes prints fault = record {
     state = λ i. record {
       decoder = ap (λ (x : Cutting D). x.decoder) takes.state i;
       waiting = q;
       fault = (fault ∙ ap (λ x. fault_after x (unit ∷ [])) (ap (λ (x : Cutting D). x.fault) takes.state) ∙ fault_after-append c.fault us (unit ∷ [])) i;
       read = ap (λ (x : Cutting D). x.read) takes.state i;
+      held = ap (λ (x : Cutting D). x.held) takes.state i;
     };
     prints = prints_same (ap (λ w. unit_lines us ++ w) (sym (append-nil (unit_line unit))) ∙ sym (lines-append us (unit ∷ []))) (prints_both takes.prints prints);
   }
@@ -62,12 +63,12 @@ codec_stays n old new (Err e) is fed = absurd (cc is)
 
 module _ {D : Type 0} {state : D → Decoding} {stands : D → List ℕ → Type 0} where
   -- a block was cut
-  pub cut_on : {codec : Codec} {w : SinkState} {h : List ℕ} {c d e : Cutting D} {v u : SinkState} {bytes : List ℕ} {found shown : List FrameUnit} (count : ℕ)
-      → HasCut state stands codec w h c v → d ≡ record c { decoder = d.decoder } → (state d.decoder).codec ≡ (state c.decoder).codec
+  pub cut_on : {codec : Codec} {w : SinkState} {h : List ℕ} {c d e : Cutting D} {v u : SinkState} {bytes : List ℕ} {found shown : List FrameUnit} (count held : ℕ)
+      → HasCut state stands codec w h c v → d ≡ record c { decoder = d.decoder; held = 0 } → (state d.decoder).codec ≡ (state c.decoder).codec
       → TakesIn (stands c.decoder) (stands d.decoder) (state c.decoder).codec bytes [] found
       → shown ≡ found → TakesUnits (units_of shown) d v e u → count ≡ length bytes
-      → HasCut state stands codec w (h ++ bytes) (record e { read = e.read + count }) u
-  cut_on {codec} {w} {h} {c} {d} {e} {v} {u} {bytes} {found} {shown} count s same kept took same_found takes counted =
+      → HasCut state stands codec w (h ++ bytes) (record e { read = e.read + count; held = held }) u
+  cut_on {codec} {w} {h} {c} {d} {e} {v} {u} {bytes} {found} {shown} count held s same kept took same_found takes counted =
       let C : Codec → Type 0 = λ x. Grew (units x h) (units x (h ++ bytes)) [] found in
       let M : D → Type 0 = λ x. stands x (h ++ bytes) in
       let P : Cutting D → Type 0 = λ x. PrintsTo (unit_lines (units codec h)) (unprinted w) (outlet x.waiting v) in
@@ -81,15 +82,26 @@ module _ {D : Type 0} {state : D → Decoding} {stands : D → List ℕ → Type
         read = ap (λ n. n + count) (ap (λ (x : Cutting D). x.read) takes.state ∙ ap (λ (x : Cutting D). x.read) same ∙ s.read) ∙ ap (λ n. length h + n) counted ∙ sym (length-append h bytes);
       }
 
+  -- what the last piece left was let go
+  pub let_go : {codec : Codec} {w : SinkState} {h : List ℕ} (c d : Cutting D) {v : SinkState} → d ≡ record c { held = 0 } → HasCut state stands codec w h c v → HasCut state stands codec w h d v
+  let_go {codec} {w} {h} c d {v} is s =
+      let P : Cutting D → Type 0 = λ x. HasCut state stands codec w h x v in
+      subst P (sym is) (record {
+        codec_same = s.codec_same;
+        fed = s.fed;
+        found = record { printed = s.found.printed; noted = s.found.noted };
+        read = s.read;
+      })
+
   -- the end added its units
-  pub end_on : {codec : Codec} {w : SinkState} {h : List ℕ} (dec after : D) (p : Waiting) (f : Option StreamFault) (read : ℕ) {mid : Cutting D} {v u : SinkState} {start found shown : List FrameUnit}
-      → start ≡ [] → HasCut state stands codec w h (record { decoder = dec; waiting = p; fault = f; read = read }) v
+  pub end_on : {codec : Codec} {w : SinkState} {h : List ℕ} (dec after : D) (p : Waiting) (f : Option StreamFault) (read held : ℕ) {mid : Cutting D} {v u : SinkState} {start found shown : List FrameUnit}
+      → start ≡ [] → HasCut state stands codec w h (record { decoder = dec; waiting = p; fault = f; read = read; held = held }) v
       → TakesEnd (stands dec) (state dec).codec start found
-      → shown ≡ found → TakesUnits (units_of shown) (record { decoder = after; waiting = p; fault = f; read = read }) v mid u
+      → shown ≡ found → TakesUnits (units_of shown) (record { decoder = after; waiting = p; fault = f; read = read; held = held }) v mid u
       → HasUnits w (ended codec h) mid u
-  end_on {codec} {w} {h} dec after p f read {mid} {v} {u} {start} {found} {shown} none s grew same_found takes =
+  end_on {codec} {w} {h} dec after p f read held {mid} {v} {u} {start} {found} {shown} none s grew same_found takes =
       let C : Codec → Type 0 = λ c. Grew (units c h) (ended c h) start found in
-      units_on {c = record { decoder = after; waiting = p; fault = f; read = read }} (record { printed = s.found.printed; noted = s.found.noted }) takes (added none (subst C s.codec_same (grew h s.fed)) ∙ ap (λ us. units codec h ++ units_of us) (sym same_found))
+      units_on {c = record { decoder = after; waiting = p; fault = f; read = read; held = held }} (record { printed = s.found.printed; noted = s.found.noted }) takes (added none (subst C s.codec_same (grew h s.fed)) ∙ ap (λ us. units codec h ++ units_of us) (sym same_found))
 
 -- all was printed, and what waited is written out
 pub all_reported : {w v : SinkState} {p : Waiting} {text : List ℕ} → PrintsTo text (unprinted w) (outlet p v) → (p.failed ≡ false → p.text ≡ []) → Reports p.failed text w v

@@ -16,12 +16,14 @@ use Rattle.buffered_io.specs.declared.reading.Filled.{Filled}
 use Rattle.buffered_io.specs.declared.reading.Filled.TheVariants.{Full, Ended, Broken}
 use Rattle.buffered_io.specs.declared.reading.Stop.{Stop}
 use Rattle.buffered_io.specs.declared.reading.Stop.TheVariants.{End, Failure, Limit}
-use Rattle.buffered_io.specs.Reading.{Read, ReadFailing, ReadsBlock, Probes, IsAtEnd}
-use Rattle.buffered_io.proofs.Blocks.{read_both, read_failing, same_read, same_failing}
+use Rattle.buffered_io.specs.Reading.{Read, ReadFailing, IsAtEnd}
 use Rattle.buffered_io.proofs.Prints.{wrote_nothing}
+use Rattle.input_pieces.specs.declared.reader.NoPiece.{NoPiece}
+use Rattle.input_pieces.specs.declared.reader.NoPiece.TheVariants.{Stopped, NoMemory}
+use Rattle.input_pieces.specs.Pieces.{Reading, HasRead, ReadsNone, ReadsSoFar, ReadsTo, new_reading, stop_behind}
 use Rattle.relay_app.specs.declared.status.Status.{Status}
 use Rattle.relay_app.specs.declared.status.Status.TheVariants as status
-use Rattle.relay_app.specs.Cutting.{Cutting, Cuts, CutsTo, HasCut, ReadsTo, Interrupted, Closes, is_end, status_at}
+use Rattle.relay_app.specs.Cutting.{Cutting, HasCut, Interrupted, IsStopOf, Closes, is_end, status_at}
 use Rattle.relay_app.specs.Framing.{framing}
 use Rattle.relay_app.specs.Runs.{Command, Completed, Starved, Reports, ReportsPart, ReadsInput, is_whole, none_left, status_of, stream_or, text_of}
 use Rattle.relay_app.specs.Text.{unit_lines}
@@ -31,83 +33,69 @@ pub on_err : {T E : Type 0} (r : Result T E) {P : Type 0} → P → OnErr r P
 on_err (Ok x) {P} p = tt
 on_err (Err e) {P} p = p
 
--- all that was asked for was read, and then one byte more was asked for
-pub probed : {limit : ℕ} {h : List ℕ} {s : SourceState} (r t : SourceState) (stop : Stop) → Read h s r → length h ≡ limit → Probes stop r t → ReadsTo limit stop h s t
-probed {limit} {h} {s} r t End first full p = (same_read (append-nil h) (read_both first p.0), p.1, omega (arith, full))
-probed {limit} {h} {s} r t Failure first full p = (same_failing (append-nil h) (read_failing first p), omega (arith, full))
-probed {limit} {h} {s} r t Limit first full p = (p.0, read_both first p.1, full)
+module _ {S : Type 0} {at : S → SourceState} where
+  -- a reading that stopped
+  pub stopped_so : {block limit : ℕ} {s : SourceState} {h : List ℕ} (r : Reading S) (stop : Stop) → r.stop ≡ Some stop → HasRead at block limit s h r → ReadsTo block limit stop h s (at r.input)
+  stopped_so {block} {limit} {s} {h} r stop is has = let P : Option Stop → Type 0 = λ o. ReadsSoFar block limit o h s (at r.input) in subst P is has.came
+
+  -- no more than the limit was read
+  pub within_limit : {block limit : ℕ} {s : SourceState} {h : List ℕ} (r : Reading S) → HasRead at block limit s h r → r.read ≤ limit
+  within_limit {block} {limit} {s} {h} r has = omega (arith, has.bytes, by r.stop has.came)
+    where
+      by : (o : Option Stop) → ReadsSoFar block limit o h s (at r.input) → length h ≤ limit
+      by None c = c.1
+      by (Some End) c = c.2
+      by (Some Failure) c = c.1
+      by (Some Limit) c = omega (arith, c.2)
+
+  -- a new reader has read nothing, by its own sizes
+  pub own_read : (r : Reading S) (input : S) (block limit : ℕ) → r ≡ new_reading input block limit → HasRead at block limit (at input) [] r → HasRead at r.block r.limit (at r.input) [] r
+  own_read r input block limit is has =
+      let P : Reading S → Type 0 = λ x. HasRead at x.block x.limit (at x.input) [] x in
+      let Q : Reading S → Type 0 = λ x. HasRead at block limit (at input) [] x in
+      subst P (sym is) (subst Q is has)
 
 module _ {D : Type 0} {state : D → Decoding} {stands : D → List ℕ → Type 0} where
   -- the codec under another name
   pub recode : {codec : Codec} {w : SinkState} {h : List ℕ} {c : Cutting D} {v : SinkState} → HasCut state stands codec w h c v → HasCut state stands (state c.decoder).codec w h c v
   recode {codec} {w} {h} {c} {v} s = let P : Codec → Type 0 = λ x. HasCut state stands x w h c v in subst P (sym s.codec_same) s
 
-  -- a block came, and was cut
-  cut_next : {codec : Codec} {limit : ℕ} {w v u : SinkState} {h : List ℕ} {c d e : Cutting D} (size : ℕ) (bytes : List ℕ) → d ≡ c → HasCut state stands codec w h c v
-      → Cuts state stands bytes d v e u → c.read + size ≤ limit → length bytes ≤ size → HasCut state stands codec w (h ++ bytes) e u × (length (h ++ bytes) ≤ limit)
-  cut_next {codec} {limit} {w} {v} {h = h} {c} size bytes same before cut room within =
-      let P : Cutting D → Type 0 = λ x. HasCut state stands codec w h x v in
-      (cut codec w h (subst P (sym same) before), omega (arith, length-append h bytes, before.read, room, within))
-
-  -- a whole block came, and was cut
-  pub cut_full : {codec : Codec} {limit : ℕ} {w v u : SinkState} {h : List ℕ} {c d : Cutting D} (e : Cutting D) (size : ℕ) (bytes : List ℕ) {s r t : SourceState} {filled : Filled} {K : Type 0}
-      → d ≡ c → HasCut state stands codec w h c v → Read h s r → Cuts state stands bytes d v e u → c.read + size ≤ limit → filled ≡ Full → ReadsBlock filled size bytes r t → K
-      → (g : List ℕ) × HasCut state stands codec w g e u × Read g s t × (e.read ≤ limit) × K
-  cut_full {h = h} e size bytes {s} {r} {t} same before first cut room is block kept =
-      let B : Filled → Type 0 = λ f. ReadsBlock f size bytes r t in
-      let full = subst B is block in
-      let next = cut_next size bytes same before cut room (omega (arith, full.1)) in
-      (h ++ bytes, next.0, read_both first full.0, omega (arith, next.0.read, next.1), kept)
-
-  -- the last block came, and was cut
-  pub cut_last : {codec : Codec} {limit : ℕ} {w v u : SinkState} {h : List ℕ} {c d e : Cutting D} (size : ℕ) (bytes : List ℕ) {s r t : SourceState} {filled : Filled}
-      → d ≡ c → HasCut state stands codec w h c v → Read h s r → Cuts state stands bytes d v e u → c.read + size ≤ limit → filled ≡ Ended → ReadsBlock filled size bytes r t
-      → CutsTo state stands codec limit End s t w e u
-  cut_last {h = h} size bytes {s} {r} {t} same before first cut room is block =
-      let B : Filled → Type 0 = λ f. ReadsBlock f size bytes r t in
-      let last = subst B is block in
-      let next = cut_next size bytes same before cut room (omega (arith, last.2)) in
-      (h ++ bytes, next.0, (read_both first last.0, last.1, next.1))
-
-  -- a block came as far as a failure, and was cut
-  pub cut_broken : {codec : Codec} {limit : ℕ} {w v u : SinkState} {h : List ℕ} {c d e : Cutting D} (size : ℕ) (bytes : List ℕ) {s r t : SourceState} {filled : Filled}
-      → d ≡ c → HasCut state stands codec w h c v → Read h s r → Cuts state stands bytes d v e u → c.read + size ≤ limit → filled ≡ Broken → ReadsBlock filled size bytes r t
-      → CutsTo state stands codec limit Failure s t w e u
-  cut_broken {h = h} size bytes {s} {r} {t} same before first cut room is block =
-      let B : Filled → Type 0 = λ f. ReadsBlock f size bytes r t in
-      let broken = subst B is block in
-      let next = cut_next size bytes same before cut room (omega (arith, broken.1)) in
-      (h ++ bytes, next.0, (read_failing first broken.0, next.1))
-
-  -- what was read when memory was refused for a block of which these bytes came
-  pub interrupted : {codec : Codec} {limit : ℕ} {w : SinkState} {h : List ℕ} {c : Cutting D} {v u : SinkState} {s : SourceState} (r t : SourceState) (size : ℕ) (filled : Filled) (bytes : List ℕ)
-      → HasCut state stands codec w h c v → u ≡ v → Read h s r → ReadsBlock filled size bytes r t → c.read + size ≤ limit → Interrupted codec limit s t w u
-  interrupted {codec} {limit} {w} {h} {c} {v} {u} {s} r t size filled bytes cut same first block room =
+  -- what was read when memory was refused for the pieces of a piece
+  pub interrupted : {S : Type 0} {at : S → SourceState} {codec : Codec} {block limit : ℕ} {w : SinkState} {h : List ℕ} {c : Cutting D} {v u : SinkState} {s : SourceState} (r : Reading S) (bytes : List ℕ) (filled : Filled)
+      → HasCut state stands codec w h c v → u ≡ v → r.stop ≡ stop_behind filled → HasRead at block limit s (h ++ bytes) r → Interrupted codec block limit s (at r.input) w u
+  interrupted {at = at} {codec} {block} {limit} {w} {h} {c} {v} {u} {s} r bytes filled cut same stop has =
       let P : SinkState → Type 0 = λ x. ReportsPart (unit_lines (units codec h)) w x in
-      let come = came filled block in
+      let O : Option Stop → Type 0 = λ o. ReadsSoFar block limit o (h ++ bytes) s (at r.input) in
+      let come = came filled (subst O stop has.came) in
       record {
         h = h;
         more = bytes;
         read = come.0;
-        within = omega (arith, length-append h bytes, cut.read, come.1, room);
+        within = come.1;
         part = subst P (sym same) (same_part (append-nil (unit_lines (units codec h))) (part_reported [] cut.found.printed));
       }
     where
-      came : (f : Filled) → ReadsBlock f size bytes r t → (Read (h ++ bytes) s t ⊎ ReadFailing (h ++ bytes) s t) × (length bytes ≤ size)
-      came Full b = (inl (read_both first b.0), omega (arith, b.1))
-      came Ended b = (inl (read_both first b.0), omega (arith, b.2))
-      came Broken b = (inr (read_failing first b.0), omega (arith, b.1))
+      came : (f : Filled) → ReadsSoFar block limit (stop_behind f) (h ++ bytes) s (at r.input) → (Read block (h ++ bytes) s (at r.input) ⊎ ReadFailing block (h ++ bytes) s (at r.input)) × (length (h ++ bytes) ≤ limit)
+      came Full b = (inl b.0, b.1)
+      came Ended b = (inl b.0, b.2)
+      came Broken b = (inr b.0, b.1)
 
-  -- memory was refused before a block
-  pub interrupted_before : {codec : Codec} {limit : ℕ} {w : SinkState} {h : List ℕ} {c : Cutting D} {v : SinkState} {s r : SourceState}
-      → HasCut state stands codec w h c v → Read h s r → c.read ≤ limit → Interrupted codec limit s r w v
-  interrupted_before {codec} {limit} {w} {h} {c} {v} {s} {r} cut first within = record {
-    h = h;
-    more = [];
-    read = inl (same_read (sym (append-nil h)) first);
-    within = omega (arith, length-append h [], cut.read, within);
-    part = same_part (append-nil (unit_lines (units codec h))) (part_reported [] cut.found.printed);
-  }
+  -- memory was refused before a piece
+  pub interrupted_before : {S : Type 0} {at : S → SourceState} {codec : Codec} {block limit : ℕ} {w : SinkState} {h : List ℕ} {c : Cutting D} {v : SinkState} {s : SourceState} (r : Reading S)
+      → HasCut state stands codec w h c v → r.stop ≡ None → HasRead at block limit s h r → Interrupted codec block limit s (at r.input) w v
+  interrupted_before {at = at} {codec} {block} {limit} {w} {h} {c} {v} {s} r cut on has =
+      let H : List ℕ → Type 0 = λ x. HasRead at block limit s x r in
+      interrupted r [] Full cut refl on (subst H (sym (append-nil h)) has)
+
+  -- there was no piece, and not since the reading stopped
+  pub interrupted_none : {S E : Type 0} {at : S → SourceState} {codec : Codec} {block limit : ℕ} {w : SinkState} {h : List ℕ} {c : Cutting D} {v : SinkState} {s : SourceState} (old new : Reading S) (none : NoPiece) (r : Result Stop E)
+      → IsStopOf none r → ReadsNone at none old new → HasCut state stands codec w h c v → HasRead at block limit s h old → OnErr r (Interrupted codec block limit s (at new.input) w v)
+  interrupted_none old new (Stopped stop) (Ok why) is none cut has = tt
+  interrupted_none old new (Stopped stop) (Err e) is none cut has = absurd is
+  interrupted_none old new NoMemory (Ok why) is none cut has = absurd is
+  interrupted_none {S} {E} {at} {codec} {block} {limit} {w} {h} {c} {v} {s} old new NoMemory (Err e) is none cut has =
+      let P : Reading S → Type 0 = λ x. Interrupted codec block limit s (at x.input) w v in
+      subst P (sym none.0) (interrupted_before old cut none.1 has)
 
 -- what an input gave that had given nothing before
 told_of : (s t : SourceState) (bytes : List ℕ) → IsFreshSource s → t.given ≡ grown s.given bytes → IfSome t.given (λ xs. xs ≡ bytes)
@@ -210,15 +198,15 @@ run_from {c} {limit} {stop} {h} {given} s t {w} {v} {status} fresh gave after a 
     by (inr part) = inr (record { part = same_part a.text_is part.part; memory = part.memory })
 
 -- an input was read as far as it went, and the report was closed
-pub closing : (c : Command) (limit : ℕ) (stop : Stop) (h : List ℕ) (s t : SourceState) {w v : SinkState} {status : Status}
-    → IsFreshSource s → ReadsTo limit stop h s t → Closes c stop h w v status → ReadsInput c limit t w v status
-closing c limit End h s t {w} {v} {status} fresh r closes =
+pub closing : (c : Command) (block limit : ℕ) (stop : Stop) (h : List ℕ) (s t : SourceState) {w v : SinkState} {status : Status}
+    → IsFreshSource s → ReadsTo block limit stop h s t → Closes c stop h w v status → ReadsInput c limit t w v status
+closing c block limit End h s t {w} {v} {status} fresh r closes =
     run_from s t fresh (ap (λ (x : SourceState). x.given) r.0.state) (r.0.after fresh.1)
     (agrees_end c limit h t (ap (λ (x : SourceState). x.faults) r.0.state ∙ fresh.1) r.2 r.1) closes
-closing c limit Failure h s t {w} {v} {status} fresh r closes =
+closing c block limit Failure h s t {w} {v} {status} fresh r closes =
     run_from s t fresh (ap (λ (x : SourceState). x.given) r.0.state) (r.0.after fresh.1)
     (agrees_failure c limit h t (omega (arith, ap (λ (x : SourceState). x.faults) r.0.state ∙ ap counted fresh.1)) r.1) closes
-closing c limit Limit h s t {w} {v} {status} fresh r closes =
+closing c block limit Limit h s t {w} {v} {status} fresh r closes =
     run_from s t fresh (ap (λ (x : SourceState). x.given) r.1.state) (r.1.after fresh.1)
     (agrees_limit c limit h r.0 t (ap (λ (x : SourceState). x.faults) r.1.state ∙ fresh.1) r.2) closes
 
@@ -237,9 +225,9 @@ starved_at_once c limit t w fresh = record {
 }
 
 -- memory was refused later
-pub starved_on : (codec : Codec) {limit : ℕ} (s : SourceState) {t : SourceState} {w v : SinkState} → StableUnits → fault_of codec ≡ None
-    → IsFreshSource s → Interrupted codec limit s t w v → ReadsInput (framing codec) limit t w v status.Memory
-starved_on codec {limit} s {t} {w} {v} stable checked fresh i =
+pub starved_on : (codec : Codec) {block limit : ℕ} (s : SourceState) {t : SourceState} {w v : SinkState} → StableUnits → fault_of codec ≡ None
+    → IsFreshSource s → Interrupted codec block limit s t w v → ReadsInput (framing codec) limit t w v status.Memory
+starved_on codec {block} {limit} s {t} {w} {v} stable checked fresh i =
     let given : List ℕ = i.h ++ i.more in
     let read : take limit given ≡ given = take_all limit given i.within in
     let longer = text_from codec i.h given (is_whole limit given t) (stable codec checked i.h i.more).1 in
@@ -255,11 +243,11 @@ starved_on codec {limit} s {t} {w} {v} stable checked fresh i =
       });
     }
   where
-    gave : Read (i.h ++ i.more) s t ⊎ ReadFailing (i.h ++ i.more) s t → t.given ≡ grown s.given (i.h ++ i.more)
+    gave : Read block (i.h ++ i.more) s t ⊎ ReadFailing block (i.h ++ i.more) s t → t.given ≡ grown s.given (i.h ++ i.more)
     gave (inl r) = ap (λ (x : SourceState). x.given) r.state
     gave (inr r) = ap (λ (x : SourceState). x.given) r.state
 
-    silent : Read (i.h ++ i.more) s t ⊎ ReadFailing (i.h ++ i.more) s t → t.after ≡ s.after
+    silent : Read block (i.h ++ i.more) s t ⊎ ReadFailing block (i.h ++ i.more) s t → t.after ≡ s.after
     silent (inl r) = r.after fresh.1
     silent (inr r) = r.after fresh.1
 

@@ -1,5 +1,5 @@
 -- A stream that is being cut, and what comes of it.
-use Rattle.std.specs.Prelude.{◌≡◌, ◌⊎◌, ℕ, ◌≤◌, Bool, true, false, List, [], ◌∷◌, ◌++◌, Option, length, if◌then◌else◌}
+use Rattle.std.specs.Prelude.{◌≡◌, ◌⊎◌, ℕ, ◌≤◌, Bool, true, false, List, [], ◌∷◌, ◌++◌, Option, Result, Ok, Err, length, if◌then◌else◌}
 use Rattle.frame_head.specs.declared.codecs.Codec.{Codec}
 use Rattle.frame_head.specs.Heads.{FramingUnit}
 use Rattle.frame_head.specs.Units.{units}
@@ -7,8 +7,11 @@ use Rattle.frame_rule.specs.Decoding.{Decoding}
 use Rattle.relay_ports.specs.States.{SourceState, SinkState}
 use Rattle.buffered_io.specs.declared.reading.Stop.{Stop}
 use Rattle.buffered_io.specs.declared.reading.Stop.TheVariants.{End, Failure, Limit}
-use Rattle.buffered_io.specs.Reading.{Read, ReadFailing, IsAtEnd}
+use Rattle.buffered_io.specs.Reading.{Read, ReadFailing}
 use Rattle.buffered_io.specs.Writing.{Waiting, Outlet, PrintsTo, outlet}
+use Rattle.input_pieces.specs.declared.reader.NoPiece.{NoPiece}
+use Rattle.input_pieces.specs.declared.reader.NoPiece.TheVariants.{Stopped, NoMemory}
+use Rattle.input_pieces.specs.Pieces.{ReadsTo}
 use Rattle.relay_app.specs.declared.status.Status.{Status}
 use Rattle.relay_app.specs.declared.status.Status.TheVariants as status
 use Rattle.relay_app.specs.declared.stream_fault.StreamFault.{StreamFault}
@@ -22,12 +25,14 @@ is_end End = true
 is_end Failure = false
 is_end Limit = false
 
--- a cutter: its decoder, the text that waits, the first fault, and how many bytes were cut
+-- a cutter: its decoder, the text that waits, the first fault, how many bytes were cut, and how many units and
+-- receipts of the last piece weren't let go yet
 pub record Cutting (D : Type 0) : Type 0 where
   pub decoder : D
   pub waiting : Waiting
   pub fault : Option StreamFault
   pub read : ℕ
+  pub held : ℕ
 
 -- a printer that was just made, before a sink in this state
 abbrev pub unprinted : SinkState → Outlet
@@ -45,17 +50,11 @@ module _ {D : Type 0} where
     pub state : d ≡ record c { waiting = d.waiting; fault = fault_after c.fault us }
     pub prints : PrintsTo (unit_lines us) (outlet c.waiting v) (outlet d.waiting u)
 
--- a reading of at most `limit` bytes stopped behind the bytes `h`
-abbrev pub ReadsTo : ℕ → Stop → List ℕ → SourceState → SourceState → Type 0
-ReadsTo limit End h s t = Read h s t × IsAtEnd t × (length h ≤ limit)
-ReadsTo limit Failure h s t = ReadFailing h s t × (length h ≤ limit)
-ReadsTo limit Limit h s t = (x : ℕ) × Read (h ++ x ∷ []) s t × (length h ≡ limit)
-
 -- memory was refused when the bytes `h` were cut, and some more were read
-pub record Interrupted (codec : Codec) (limit : ℕ) (s t : SourceState) (w v : SinkState) : Type 0 where
+pub record Interrupted (codec : Codec) (block limit : ℕ) (s t : SourceState) (w v : SinkState) : Type 0 where
   pub h : List ℕ
   pub more : List ℕ
-  pub read : Read (h ++ more) s t ⊎ ReadFailing (h ++ more) s t
+  pub read : Read block (h ++ more) s t ⊎ ReadFailing block (h ++ more) s t
   pub within : length (h ++ more) ≤ limit
   pub part : ReportsPart (unit_lines (units codec h)) w v
 
@@ -64,6 +63,12 @@ abbrev pub status_at : Stop → Option StreamFault → Bool → Status
 status_at End fault report_failed = stream_or (if report_failed then status.Report else status.Fine) fault
 status_at Failure fault report_failed = status.Source
 status_at Limit fault report_failed = status.Limit
+
+-- why a reading stopped, from why there was no piece: but for want of memory
+abbrev pub IsStopOf : {E : Type 0} → NoPiece → Result Stop E → Type 0
+IsStopOf (Stopped stop) (Ok why) = why ≡ stop
+IsStopOf NoMemory (Err e) = Unit {0}
+IsStopOf _ _ = ⊥
 
 -- the report was closed behind the bytes `h`, where the reading stopped so
 abbrev pub Closes : Command → Stop → List ℕ → SinkState → SinkState → Status → Type 0
@@ -91,8 +96,8 @@ module _ {D : Type 0} (state : D → Decoding) (stands : D → List ℕ → Type
       → HasUnits w (units_read codec h (is_end stop)) d u
 
   -- all that was read, until it stopped so, was cut
-  abbrev pub CutsTo : Codec → ℕ → Stop → SourceState → SourceState → SinkState → Cutting D → SinkState → Type 0
-  CutsTo codec limit stop s t w c v = (h : List ℕ) × HasCut codec w h c v × ReadsTo limit stop h s t
+  abbrev pub CutsTo : Codec → ℕ → ℕ → Stop → SourceState → SourceState → SinkState → Cutting D → SinkState → Type 0
+  CutsTo codec block limit stop s t w c v = (h : List ℕ) × HasCut codec w h c v × ReadsTo block limit stop h s t
 
   -- the report of all that was cut was closed
   abbrev pub ClosesCut : Stop → Cutting D → SinkState → SinkState → Status → Type 0

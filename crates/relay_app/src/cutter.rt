@@ -1,18 +1,18 @@
-ghost use Rattle.std.specs.Prelude.{◌≡◌, ◌+◌, ◌≤◌, ◌<◌, ◌^◌, [], ◌∷◌, ◌++◌, None, length, IfOk, OnOk, OnErr};
+ghost use Rattle.std.specs.Prelude.{◌≡◌, ◌+◌, ◌≤◌, ◌<◌, ◌^◌, [], ◌∷◌, ◌++◌, None, length, IfOk, IfErr, OnOk, OnErr};
 ghost use Rattle.iobuf_chain.specs.Copies.{IsHeavy, WithData};
 ghost use Rattle.frame_rule.specs.Decoding.{TakesIn};
 ghost use Rattle.frame_rule.specs.Hauls.{SharesData};
 ghost use Rattle.frame_rule.specs.Units.{units_of};
 ghost use Rattle.relay_ports.specs.States.{SinkState};
-ghost use Rattle.buffered_io.specs.Reading.{ReadsBlock};
+ghost use Rattle.input_pieces.specs.Pieces.{ReadsNone, ReadsPiece};
 ghost use Rattle.relay_app.specs.Cutting.{ClosesCut, Cuts, CutsEnd, HasCut, TakesUnits};
 
 use crate::status::Status;
 use crate::stream_fault::{StreamFault, note};
 use crate::unit_lines::{print_end, print_unit};
-use buffered_io::{Filled, Printer, Stop};
+use buffered_io::Printer;
 use frame_rule::{Decoder, FrameUnit, Haul};
-use input_pieces::{IoBuf, Mint, read_piece};
+use input_pieces::{IoBuf, Mint, NoPiece, PieceReader, Stop};
 use iobuf_chain::Chain;
 use relay_ports::{Sink, Source};
 use std::alloc::{AllocError, Global};
@@ -24,7 +24,7 @@ use std::mem;
 pub(crate) struct Cutter<D: Decoder> {
     decoder: D,
     printer: Printer,
-    // What the last block made whole and handed back. It is let go once the next block is there: with the small pieces
+    // What the last piece made whole and handed back. It is let go once the next piece is there: with the small pieces
     // of memory still taken, the allocator has none to put together when it is asked for a block.
     haul: Haul,
     mint: Mint,
@@ -33,11 +33,18 @@ pub(crate) struct Cutter<D: Decoder> {
 }
 
 impl<D: Decoder> Model for Cutter<D> {
+    ghost use Rattle.std.specs.Prelude.{◌+◌, length};
     ghost use Rattle.relay_app.specs.Cutting.{Cutting};
 
     ghost Value = { Cutting D };
 
-    ghost view = { λ c. record { decoder = c.decoder; waiting = c.printer; fault = c.fault; read = c.read } };
+    ghost view = { λ c. record {
+      decoder = c.decoder;
+      waiting = c.printer;
+      fault = c.fault;
+      read = c.read;
+      held = length c.haul.units.items + length c.haul.back.items;
+    } };
 }
 
 impl<D: Decoder> Cutter<D> {
@@ -64,20 +71,21 @@ impl<D: Decoder> Cutter<D> {
         self.read
     }
 
-    /// Reads the next block, of at most `size` bytes, straight into a new node.
-    pub(crate) fn read_block<S: Source>(
+    /// Reads the next piece straight into a new node, and then lets go of all that the piece before it left.
+    pub(crate) fn next_piece<S: Source>(
         &mut self,
         alloc: Global,
-        input: &mut S,
-        size: usize,
-    ) -> Result<(IoBuf<'static>, Filled), AllocError>
-        requires { size ≤ 1048576 }
-        ensures reads { IfOk result (λ r. ReadsBlock r.1 size r.0.window (S.state input.old) (S.state input.new)) }
-        ensures unread { OnErr result (input.new ≡ input.old) }
-        ensures heavy { IfOk result (λ r. IsHeavy r.0) }
-        ensures same { self.new ≡ self.old }
+        reader: &mut PieceReader<S>,
+    ) -> Result<IoBuf<'static>, NoPiece>
+        requires { reader.old.block ≤ 1048576 }
+        ensures piece { IfOk result (λ node. ReadsPiece S.state node.window reader.old reader.new) }
+        ensures none { IfErr result (λ e. ReadsNone S.state e reader.old reader.new) }
+        ensures heavy { IfOk result (λ node. IsHeavy node) }
+        ensures let_go { self.new ≡ record self.old { held = 0 } }
     {
-        read_piece(alloc, input, size, &mut self.mint)
+        let piece = reader.next(alloc, &mut self.mint);
+        empty(&mut self.haul);
+        piece
     }
 
     /// Cuts the next block, and prints what it completes. No byte of a frame is copied but into the report.
@@ -114,7 +122,7 @@ impl<D: Decoder> Cutter<D> {
         ensures copies { IfOk result (λ haul. SharesData ((D.state self.old.decoder).kept ++ block.entry ∷ [])
             (D.state self.new.decoder).kept [] haul.units.items) }
         ensures codec { OnOk result ((D.state self.new.decoder).codec ≡ (D.state self.old.decoder).codec) }
-        ensures same { self.new ≡ record self.old { decoder = self.new.decoder } }
+        ensures same { self.new ≡ record self.old { decoder = self.new.decoder; held = 0 } }
     {
         let Ok(piece) = Chain::of(alloc, block) else {
             return Err(AllocError);
@@ -151,7 +159,7 @@ impl<D: Decoder> Cutter<D> {
             Stop::End => {}
         }
         let mut haul = Haul::new(alloc);
-        if self.decoder.end(alloc, &mut haul, &mut self.mint).is_err() {
+        if self.decoder.end(&mut haul).is_err() {
             return Err(AllocError);
         }
         self.take_units(report, &haul.units);
@@ -171,7 +179,8 @@ impl<D: Decoder> Cutter<D> {
 
 // Lets go of all that is in a haul.
 fn empty(haul: &mut Haul)
-    ensures { haul.new.units.items ≡ [] }
+    ensures units { haul.new.units.items ≡ [] }
+    ensures back { haul.new.back.items ≡ [] }
 {
     'units: while let Some(unit) = haul.units.pop() {
         if let FrameUnit::Frame { chain, .. } = unit {

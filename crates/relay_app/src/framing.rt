@@ -2,16 +2,17 @@ ghost use Rattle.std.specs.Prelude.{◌≡◌, ◌≤◌, ◌^◌, [], None, IfO
 ghost use Rattle.frame_head.specs.Codecs.{fault_of};
 ghost use Rattle.frame_rule.specs.Decoding.{fresh};
 ghost use Rattle.relay_ports.specs.States.{IsFreshSource};
-ghost use Rattle.relay_app.specs.Cutting.{CutsTo, HasCut, Interrupted};
+ghost use Rattle.input_pieces.specs.Pieces.{HasRead};
+ghost use Rattle.relay_app.specs.Cutting.{CutsTo, HasCut, Interrupted, IsStopOf};
 ghost use Rattle.relay_app.specs.Framing.{framing};
 ghost use Rattle.relay_app.specs.Runs.{ReadsInput, RunsInput};
 
 use crate::cutter::Cutter;
 use crate::status::Status;
 use any_scanner::AnyScanner;
-use buffered_io::{Filled, Stop, probe};
 use frame_head::laws::stable_units;
 use frame_rule::{Codec, Decoder, Framer};
+use input_pieces::{NoPiece, PieceReader, Stop};
 use relay_ports::{Host, NotOpened, Sink, Source};
 use std::alloc::{AllocError, Global};
 
@@ -59,72 +60,80 @@ fn frames_by<H: Host, D: Decoder>(
     requires limit { limit ≤ 2 ^ 40 }
     ensures { RunsInput (framing (D.state decoder).codec) name.now limit (H.state host.old) (H.state host.new) result }
 {
-    let mut input = match host.open_in(name) {
+    let input = match host.open_in(name) {
         Ok(input) => input,
         Err(NotOpened::Failed) => return Status::NotOpened { nth: 0 },
         Err(NotOpened::NoMemory) => return Status::Memory,
     };
-    let status = cut_input(alloc, &mut input, host.report(), decoder, block, limit);
-    host.finish_in(name, input);
+    let mut reader = PieceReader::new(input, block, limit);
+    let status = cut_input(alloc, &mut reader, host.report(), decoder);
+    host.finish_in(name, reader.into_input());
     status
 }
 
-// Cuts an input that was just opened.
+// Cuts an input of which nothing was read yet.
 fn cut_input<S: Source, W: Sink, D: Decoder>(
     alloc: Global,
-    input: &mut S,
+    reader: &mut PieceReader<S>,
     report: &mut W,
     decoder: D,
-    block: usize,
-    limit: u64,
 ) -> Status
     requires fed { D.stands decoder [] }
     requires kept { (D.state decoder).kept ≡ [] }
-    requires block { (1 ≤ block) × (block ≤ 1048576) }
-    requires limit { limit ≤ 2 ^ 40 }
-    requires fresh { IsFreshSource (S.state input.old) }
-    ensures { ReadsInput (framing (D.state decoder).codec) limit
-        (S.state input.new) (W.state report.old) (W.state report.new) result }
+    requires block { reader.old.block ≤ 1048576 }
+    requires limit { reader.old.limit ≤ 2 ^ 40 }
+    requires fresh { IsFreshSource (S.state reader.old.input) }
+    requires unread { HasRead S.state reader.old.block reader.old.limit (S.state reader.old.input) [] reader.old }
+    ensures { ReadsInput (framing (D.state decoder).codec) reader.old.limit
+        (S.state reader.new.input) (W.state report.old) (W.state report.new) result }
 {
     // For the proof alone: lines that were printed stay the first of the report when more is read.
     stable_units();
     let Ok(mut cutter) = Cutter::new(alloc, decoder) else {
         return Status::Memory;
     };
-    match cut_blocks(alloc, input, report, &mut cutter, block, limit) {
+    match cut_pieces(alloc, reader, report, &mut cutter) {
         Ok(stop) => cutter.close(alloc, report, stop),
         Err(AllocError) => Status::Memory,
     }
 }
 
-// Cuts block after block, until no more is to be read.
-fn cut_blocks<S: Source, W: Sink, D: Decoder>(
+// Cuts piece after piece, until no more is to be read.
+#[tactic(auto, using(crate::proofs::Inputs::within_limit))]
+fn cut_pieces<S: Source, W: Sink, D: Decoder>(
     alloc: Global,
-    input: &mut S,
+    reader: &mut PieceReader<S>,
     report: &mut W,
     cutter: &mut Cutter<D>,
-    block: usize,
-    limit: u64,
 ) -> Result<Stop, AllocError>
-    requires block { (1 ≤ block) × (block ≤ 1048576) }
-    requires limit { limit ≤ 2 ^ 40 }
+    requires block { reader.old.block ≤ 1048576 }
+    requires limit { reader.old.limit ≤ 2 ^ 40 }
+    requires unread { HasRead S.state reader.old.block reader.old.limit (S.state reader.old.input) [] reader.old }
     requires fresh { HasCut D.state D.stands (D.state cutter.old.decoder).codec (W.state report.old) []
         cutter.old (W.state report.old) }
     requires kept { (D.state cutter.old.decoder).kept ≡ [] }
-    ensures cut { IfOk result (λ stop. CutsTo D.state D.stands (D.state cutter.old.decoder).codec limit stop
-        (S.state input.old) (S.state input.new) (W.state report.old) cutter.new (W.state report.new)) }
-    ensures interrupted { OnErr result (Interrupted (D.state cutter.old.decoder).codec limit
-        (S.state input.old) (S.state input.new) (W.state report.old) (W.state report.new)) }
+    ensures cut { IfOk result (λ stop. CutsTo D.state D.stands (D.state cutter.old.decoder).codec
+        reader.old.block reader.old.limit stop (S.state reader.old.input) (S.state reader.new.input)
+        (W.state report.old) cutter.new (W.state report.new)) }
+    ensures interrupted { OnErr result (Interrupted (D.state cutter.old.decoder).codec
+        reader.old.block reader.old.limit (S.state reader.old.input) (S.state reader.new.input)
+        (W.state report.old) (W.state report.new)) }
 {
-    'reading: while cutter.read() < limit {
-        let size = (limit - cutter.read()).min(block as u64) as usize;
-        let (piece, filled) = cutter.read_block(alloc, input, size)?;
+    'reading: loop {
+        let piece = match cutter.next_piece(alloc, reader) {
+            Ok(piece) => piece,
+            Err(none) => return stop_of(none),
+        };
         cutter.cut(alloc, report, piece)?;
-        match filled {
-            Filled::Full => {}
-            Filled::Ended => return Ok(Stop::End),
-            Filled::Broken => return Ok(Stop::Failure),
-        }
     }
-    Ok(probe(input))
+}
+
+// Why a reading stopped, where it wasn't for want of memory.
+fn stop_of(none: NoPiece) -> Result<Stop, AllocError>
+    ensures { IsStopOf none result }
+{
+    match none {
+        NoPiece::Stopped(stop) => Ok(stop),
+        NoPiece::NoMemory => Err(AllocError),
+    }
 }

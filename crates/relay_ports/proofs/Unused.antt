@@ -23,16 +23,16 @@ all_found P q (e ∷ es) x all is =
     found_step P e.1 x (lookup q es) (q e.0) (All-head (λ y. P y.1) e es all) (all_found P q es x (All-tail (λ y. P y.1) e es all)) is
 
 -- adding keeps what holds of all
-pub all_added : {X E : Type 0} (P : X → Type 0) (r : Result (Unit {0}) E) (old new : Entries X) (name : List _) (x : X) → OnOk r (new ≡ with_waiting name x old) → OnErr r (new ≡ old)
+pub all_added : {X Y E : Type 0} (P : X → Type 0) (r : Result (Unit {0}) E) (old new : Entries X Y) (name : List _) (x : X) → OnOk r (new ≡ with_waiting name x old) → OnErr r (new ≡ old)
     → P x → All (λ e. P e.1) old.waiting → All (λ e. P e.1) new.waiting
-all_added {X} P (Ok u) old new name x ok err p all =
-    subst (λ (v : Entries X). All (λ e. P e.1) v.waiting) (sym ok) (All-cons (λ e. P e.1) (name, x) (remove_entry (bytes_eq name) old.waiting) p (all_removed (λ e. P e.1) (bytes_eq name) old.waiting all))
-all_added {X} P (Err e) old new name x ok err p all = subst (λ (v : Entries X). All (λ e. P e.1) v.waiting) (sym err) all
+all_added {X} {Y} P (Ok u) old new name x ok err p all =
+    subst (λ (v : Entries X Y). All (λ e. P e.1) v.waiting) (sym ok) (All-cons (λ e. P e.1) (name, x) (remove_entry (bytes_eq name) old.waiting) p (all_removed (λ e. P e.1) (bytes_eq name) old.waiting all))
+all_added {X} {Y} P (Err e) old new name x ok err p all = subst (λ (v : Entries X Y). All (λ e. P e.1) v.waiting) (sym err) all
 
 -- opening keeps what holds of all
-pub all_opened : {X E : Type 0} (P : X → Type 0) (r : Result (Option X) E) (old new : Entries X) (name : List _) → IfOk r (λ x. IsSome x → new ≡ with_opened name old) → IfOk r (λ x. x ≡ None → new ≡ old)
+pub all_opened : {X Y E : Type 0} (P : X → Type 0) (r : Result (Option X) E) (old new : Entries X Y) (name : List _) → IfOk r (λ x. IsSome x → new ≡ with_opened name old) → IfOk r (λ x. x ≡ None → new ≡ old)
     → OnErr r (new ≡ old) → All (λ e. P e.1) old.waiting → All (λ e. P e.1) new.waiting
-all_opened {X} P (Ok (Some x)) old new name opened missing err all =
-    subst (λ (v : Entries X). All (λ e. P e.1) v.waiting) (sym (opened refl)) (all_removed (λ e. P e.1) (bytes_eq name) old.waiting all)
-all_opened {X} P (Ok None) old new name opened missing err all = subst (λ (v : Entries X). All (λ e. P e.1) v.waiting) (sym (missing refl)) all
-all_opened {X} P (Err e) old new name opened missing err all = subst (λ (v : Entries X). All (λ e. P e.1) v.waiting) (sym err) all
+all_opened {X} {Y} P (Ok (Some x)) old new name opened missing err all =
+    subst (λ (v : Entries X Y). All (λ e. P e.1) v.waiting) (sym (opened refl)) (all_removed (λ e. P e.1) (bytes_eq name) old.waiting all)
+all_opened {X} {Y} P (Ok None) old new name opened missing err all = subst (λ (v : Entries X Y). All (λ e. P e.1) v.waiting) (sym (missing refl)) all
+all_opened {X} {Y} P (Err e) old new name opened missing err all = subst (λ (v : Entries X Y). All (λ e. P e.1) v.waiting) (sym err) all

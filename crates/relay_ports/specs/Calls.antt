@@ -1,19 +1,28 @@
 -- What a call makes of the state of a source, a sink or a host.
-use Rattle.std.specs.Prelude.{◌≡◌, ℕ, ◌+◌, List, [], ◌∷◌, ◌++◌, Result, Ok, Err, is_err, if◌then◌else◌, drop}
+use Rattle.std.specs.Prelude.{◌≡◌, ℕ, ◌+◌, List, [], ◌∷◌, ◌++◌, Result, Ok, Err, is_err, if◌then◌else◌, drop, max}
 use Rattle.relay_ports.specs.Told.{counted, calls_after, grown, prefixed, taken_out, without_number}
 use Rattle.relay_ports.specs.States.{SourceState, SinkState, HostState}
 use Rattle.relay_ports.specs.declared.failures.NotOpened.{NotOpened}
 use Rattle.relay_ports.specs.declared.failures.NotOpened.TheVariants.{Failed, NoMemory}
 
--- a source's call gave these bytes, which stood in front of those that it has left
-abbrev pub Gave : List ℕ → SourceState → SourceState → Type 0
-Gave bytes old new =
-    (new ≡ record old { given = grown old.given bytes; left = new.left; after = calls_after old.faults old.after })
+-- a source's call on a slice of `size` bytes gave these bytes, which stood in front of those that it has left
+abbrev pub Gave : ℕ → List ℕ → SourceState → SourceState → Type 0
+Gave size bytes old new =
+    (new ≡ record old {
+      given = grown old.given bytes;
+      left = new.left;
+      after = calls_after old.faults old.after;
+      longest = max old.longest size;
+    })
     × (old.left ≡ prefixed bytes new.left)
 
--- a source's call failed
-abbrev pub ReadFailed : SourceState → SourceState → Type 0
-ReadFailed old new = new ≡ record old { faults = counted old.faults; after = calls_after old.faults old.after }
+-- a source's call on a slice of `size` bytes failed
+abbrev pub ReadFailed : ℕ → SourceState → SourceState → Type 0
+ReadFailed size old new = new ≡ record old {
+  faults = counted old.faults;
+  after = calls_after old.faults old.after;
+  longest = max old.longest size;
+}
 
 -- a source's call left the slice behind the bytes that it gave as it was; all of it where it failed
 abbrev pub KeepsBehind : {E : Type 0} → Result ℕ E → List ℕ → List ℕ → Type 0
@@ -58,7 +67,7 @@ FinishedOutput result name w old new = new ≡ record old {
 
 -- a block was lent; its number is how often one was lent before
 abbrev pub LentBlock : HostState → HostState → Type 0
-LentBlock old new = new ≡ record old { lent = old.lends ∷ old.lent; lends = old.lends + 1 }
+LentBlock old new = new ≡ record old { lent = old.lent ++ old.lends ∷ []; lends = old.lends + 1 }
 
 -- the block of this number came back
 abbrev pub ReturnedBlock : ℕ → HostState → HostState → Type 0

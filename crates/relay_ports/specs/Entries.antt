@@ -24,26 +24,27 @@ after_closing name x o = record {
 abbrev pub finished_under : {X : Type 0} → List ℕ → Opened X → Option X
 finished_under name o = lookup (bytes_eq name) (reverse o.finished)
 
--- the inputs or the outputs of a host in memory: those that wait to be opened, by their names, and the openings
-pub record Entries (X : Type 0) : Type 0 where
+-- the inputs or the outputs of a host in memory: those that wait to be opened, by their names, and the openings,
+-- with what is kept of each
+pub record Entries (X Y : Type 0) : Type 0 where
   pub waiting : List (List ℕ × X)
-  pub openings : Opened X
+  pub openings : Opened Y
 
 -- what waits under a name
-abbrev pub waiting_under : {X : Type 0} → List ℕ → Entries X → Option X
+abbrev pub waiting_under : {X Y : Type 0} → List ℕ → Entries X Y → Option X
 waiting_under name e = lookup (bytes_eq name) e.waiting
 
 -- with something that waits under a name, in the place of what waited there
-abbrev pub with_waiting : {X : Type 0} → List ℕ → X → Entries X → Entries X
+abbrev pub with_waiting : {X Y : Type 0} → List ℕ → X → Entries X Y → Entries X Y
 with_waiting name x e = record e { waiting = (name, x) ∷ remove_entry (bytes_eq name) e.waiting }
 
 -- with what waits under a name opened
-abbrev pub with_opened : {X : Type 0} → List ℕ → Entries X → Entries X
+abbrev pub with_opened : {X Y : Type 0} → List ℕ → Entries X Y → Entries X Y
 with_opened name e = record {
   waiting = remove_entry (bytes_eq name) e.waiting;
   openings = after_opening name e.openings;
 }
 
--- with something finished that was open under a name
-abbrev pub with_finished : {X : Type 0} → List ℕ → X → Entries X → Entries X
-with_finished name x e = record e { openings = after_closing name x e.openings }
+-- with a name closed, and something kept of what was open under it
+abbrev pub with_finished : {X Y : Type 0} → List ℕ → Y → Entries X Y → Entries X Y
+with_finished name y e = record e { openings = after_closing name y e.openings }

@@ -1,5 +1,5 @@
 -- What the host in memory is seen as, and what each field becomes at a call.
-use Rattle.std.specs.Prelude.{◌≡◌, ℕ, List, [], ◌∷◌, ◌++◌, Some, false, map}
+use Rattle.std.specs.Prelude.{◌≡◌, ℕ, ◌-◌, ◌^◌, Bool, List, [], ◌∷◌, ◌++◌, Some, map, if◌then◌else◌}
 use Rattle.relay_ports.specs.Told.{counted}
 use Rattle.relay_ports.specs.States.{InputEnd, OutputEnd, HostState}
 use Rattle.relay_ports.specs.Memory.{Feeding, Filling, new_sink, source_state, sink_state}
@@ -8,23 +8,32 @@ use Rattle.relay_ports.specs.Lending.{Lending}
 use Rattle.relay_ports.specs.declared.failures.NotOpened.{NotOpened}
 use Rattle.relay_ports.specs.declared.failures.NotOpened.TheVariants.{Failed, NoMemory}
 
--- a host over memory: its inputs, its outputs, its report, how often an opening failed and the names of these, and
--- the blocks that it lent
+-- an output that was finished: the sink, and whether the finishing failed
+pub record Finished : Type 0 where
+  pub sink : Filling
+  pub failed : Bool
+
+-- a host over memory: its inputs, its outputs, its report, how often an opening or a finishing failed, the names
+-- whose opening failed, and the blocks that it lent; the names whose opening fails, those whose finishing fails, and
+-- how many blocks may be out
 pub record Hosting : Type 0 where
-  pub inputs : Entries Feeding
-  pub outputs : Entries Filling
+  pub inputs : Entries Feeding Feeding
+  pub outputs : Entries Filling Finished
   pub report : Filling
   pub faults : ℕ
   pub refused : List (List ℕ)
   pub lending : Lending
+  pub failing_openings : List (List ℕ)
+  pub failing_finishings : List (List ℕ)
+  pub most_out : ℕ
 
 -- what is known of an input that was finished
 abbrev pub input_end : List ℕ × Feeding → InputEnd
 input_end e = record { name = e.0; state = source_state e.1 }
 
--- what is known of an output that was finished, which never fails
-abbrev pub output_end : List ℕ × Filling → OutputEnd
-output_end e = record { name = e.0; state = sink_state e.1; failed = false }
+-- what is known of an output that was finished
+abbrev pub output_end : List ℕ × Finished → OutputEnd
+output_end e = record { name = e.0; state = sink_state e.1.sink; failed = e.1.failed }
 
 -- what is known of a host over memory, which tells all names
 abbrev pub host_state : Hosting → HostState
@@ -40,7 +49,7 @@ host_state h = record {
   report = sink_state h.report;
 }
 
--- a host with nothing in it, and a report that takes nothing
+-- a host with nothing in it, of which no call fails, and a report that takes nothing
 abbrev pub new_host : Hosting
 new_host = record {
   inputs = record { waiting = []; openings = record { open_names = []; finished = [] } };
@@ -49,6 +58,9 @@ new_host = record {
   faults = 0;
   refused = [];
   lending = record { out = []; lends = 0 };
+  failing_openings = [];
+  failing_finishings = [];
+  most_out = 2 ^ 64 - 1;
 }
 
 -- with a source that waits to be opened under a name
@@ -71,11 +83,14 @@ after_create_out name h = record h { outputs = with_opened name h.outputs }
 abbrev pub after_finish_in : List ℕ → Feeding → Hosting → Hosting
 after_finish_in name s h = record h { inputs = with_finished name s h.inputs }
 
--- with the output of a name finished
-abbrev pub after_finish_out : List ℕ → Filling → Hosting → Hosting
-after_finish_out name w h = record h { outputs = with_finished name w h.outputs }
+-- with the output of a name finished, and a finishing that failed counted
+abbrev pub after_finish_out : List ℕ → Filling → Bool → Hosting → Hosting
+after_finish_out name w failed h = record h {
+  outputs = with_finished name (record { sink = w; failed = failed }) h.outputs;
+  faults = if failed then counted h.faults else h.faults;
+}
 
--- nothing was opened under a name: the name wasn't added, which is counted, or memory was refused
+-- nothing was opened under a name: its opening fails or it wasn't added, which is counted, or memory was refused
 abbrev pub Refused : NotOpened → List ℕ → Hosting → Hosting → Type 0
 Refused Failed name old new = new ≡ record old { faults = counted old.faults; refused = old.refused ++ name ∷ [] }
 Refused NoMemory name old new = new ≡ old

@@ -3,12 +3,14 @@ use Rattle.std.specs.Prelude.{◌≡◌, ◌↔◌, ℕ, List, [], Option, Some,
 use Rattle.std.specs.Str.{bytes_eq}
 
 -- a source: the bytes that its calls gave and those that it still has, where it tells them,
--- how often a call failed, and how many calls came after the first that failed
+-- how often a call failed, how many calls came after the first that failed, and the length of
+-- the longest slice that a call was handed, whether it failed or not
 pub record SourceState : Type 0 where
   pub given : Option (List ℕ)
   pub left : Option (List ℕ)
   pub faults : ℕ
   pub after : ℕ
+  pub longest : ℕ
 
 -- a sink: the bytes that it took, where it tells them, how often a call failed, and how many calls
 -- came after the first that failed; a call with an empty piece doesn't count
@@ -30,8 +32,8 @@ pub record OutputEnd : Type 0 where
 
 -- a host: how often an opening or a finishing failed; the names whose opening failed, in order, and the names of
 -- the inputs and of the outputs that are open, the latest first, where it tells them; the inputs and the outputs
--- that were finished, in order; the numbers of the blocks that are out, the latest first, and how often a block was
--- lent; its report
+-- that were finished, in order; the set of the numbers of the blocks that are out, in order, and how often a block
+-- was lent; its report
 pub record HostState : Type 0 where
   pub faults : ℕ
   pub refused : Option (List (List ℕ))
@@ -45,7 +47,7 @@ pub record HostState : Type 0 where
 
 -- a source that wasn't called yet
 abbrev pub IsFreshSource : SourceState → Type 0
-IsFreshSource s = IfSome s.given (λ xs. xs ≡ []) × (s.faults ≡ 0) × (s.after ≡ 0)
+IsFreshSource s = IfSome s.given (λ xs. xs ≡ []) × (s.faults ≡ 0) × (s.after ≡ 0) × (s.longest ≡ 0)
 
 -- a sink that wasn't called yet
 abbrev pub IsFreshSink : SinkState → Type 0

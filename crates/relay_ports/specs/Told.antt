@@ -1,6 +1,7 @@
 -- Counts, and lists where they are told.
-use Rattle.std.specs.Prelude.{ℕ, ◌+◌, ◌-◌, ◌^◌, nat_lt, nat_eq, if◌then◌else◌}
+use Rattle.std.specs.Prelude.{ℕ, ◌+◌, ◌-◌, ◌^◌, Bool, not, nat_lt, nat_eq, if◌then◌else◌}
 use Rattle.std.specs.Prelude.{List, ◌++◌, Option, Some, None}
+use Rattle.std.specs.List.{filter, list_any}
 use Rattle.std.specs.Set.{remove_key}
 use Rattle.std.specs.Str.{bytes_eq}
 
@@ -31,6 +32,10 @@ abbrev pub taken_out : List ℕ → Option (List (List ℕ)) → Option (List (L
 taken_out name None = None
 taken_out name (Some names) = Some (without_name name names)
 
--- numbers, without the first that is this one
+-- whether a name is among these
+abbrev pub has_name : List ℕ → List (List ℕ) → Bool
+has_name name names = list_any (bytes_eq name) names
+
+-- numbers, without this one
 abbrev pub without_number : ℕ → List ℕ → List ℕ
-without_number number numbers = remove_key (nat_eq number) numbers
+without_number number numbers = filter (λ n. not (nat_eq number n)) numbers

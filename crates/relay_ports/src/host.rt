@@ -1,4 +1,4 @@
-ghost use Rattle.std.specs.Prelude.{◌≡◌, ℕ, List, Contains, replicate, IfOk, IfErr, OnOk, OnErr};
+ghost use Rattle.std.specs.Prelude.{◌≡◌, ◌<◌, ℕ, List, All, Contains, replicate, IfOk, IfErr, OnOk, OnErr};
 ghost use Rattle.std.specs.Option.{ForSome};
 ghost use Rattle.std.specs.Borrow.{sem, Lends};
 ghost use Rattle.relay_ports.specs.States.{HostState, IsFreshSource, IsFreshSink};
@@ -47,11 +47,12 @@ pub trait Host {
         requires { ForSome (state self.old).open_outputs (λ names. Contains names name.now) }
         ensures closed { FinishedOutput result name.now (Self.Output.state output) (state self.old) (state self.new) };
 
-    /// Lends a block of `size` zero bytes, under a number that no block had before. Where memory is refused nothing
-    /// changes.
+    /// Lends a block of `size` zero bytes, under a number that no block had before: each that is out is below it.
+    /// Where memory is refused nothing changes.
     fn lend(&mut self, size: usize) -> Result<Lent, AllocError>
         ensures zeros { IfOk result (λ b. b.bytes.items ≡ replicate size 0) }
         ensures number { IfOk result (λ b. b.number ≡ (state self.old).lends) }
+        ensures below { OnOk result (All (λ n. n < (state self.old).lends) (state self.old).lent) }
         ensures lent { OnOk result (LentBlock (state self.old) (state self.new)) }
         ensures refused { OnErr result (state self.new ≡ state self.old) };
 

@@ -21,6 +21,7 @@ pub struct MemSource {
     calls: u64,
     fails: Vec<u64>,
     counts: Faults,
+    longest: usize,
 }
 
 impl Model for MemSource {
@@ -37,6 +38,7 @@ impl Model for MemSource {
       fails = s.fails.items;
       faults = s.counts.faults;
       after = s.counts.after;
+      longest = s.longest;
     } };
 
     ghost invariant = { λ s. (s.at ≤ vec_len s.bytes) × (1 ≤ s.most) };
@@ -56,6 +58,7 @@ impl MemSource {
             calls: 0,
             fails,
             counts: Faults::NONE,
+            longest: 0,
         }
     }
 }
@@ -81,11 +84,12 @@ impl Source for MemSource {
         // Beyond what every source promises: which calls fail, how much the others give, and what each field becomes.
         ensures fails { IsErr result ↔ Contains self.old.fails self.old.calls }
         ensures count { IfOk result (λ n. n ≡ min (min (length into.old) self.old.most) (length self.old.left)) }
-        ensures read { IfOk result (λ n. self.new ≡ after_read n self.old) }
-        ensures failed { OnErr result (self.new ≡ after_failed_read self.old) }
+        ensures read { IfOk result (λ n. self.new ≡ after_read (length into.old) n self.old) }
+        ensures failed { OnErr result (self.new ≡ after_failed_read (length into.old) self.old) }
     {
         let call = self.calls;
         self.calls = one_more(call);
+        self.longest = self.longest.max(into.len());
         if self.fails.contains(&call) {
             self.counts.count_failure();
             return Err(Failed);

@@ -1,5 +1,6 @@
 ghost use Rattle.std.specs.Prelude.{◌≡◌, ℕ, List, IfOk, position, find, reverse, option_copied};
 ghost use Rattle.std.specs.Str.{bytes_eq};
+ghost use Rattle.relay_ports.specs.Told.{has_name};
 
 use std::alloc::{AllocError, Global};
 use std::marker::Model;
@@ -33,6 +34,13 @@ impl Name {
     {
         name == self.text.as_str()
     }
+}
+
+// Whether a name is among these.
+pub(crate) fn has_name(names: &[Name], name: &str) -> bool
+    ensures { result ≡ has_name name.now names.now }
+{
+    names.iter().any(|n| n.is(name))
 }
 
 // The place of the first name that is this one.

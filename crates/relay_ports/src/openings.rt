@@ -3,9 +3,10 @@ ghost use Rattle.std.specs.Option.{is_some};
 ghost use Rattle.std.specs.List.{list_any};
 ghost use Rattle.std.specs.Map.{keys_of};
 ghost use Rattle.std.specs.Str.{bytes_eq};
+ghost use Rattle.relay_ports.specs.Told.{has_name};
 ghost use Rattle.relay_ports.specs.Entries.{after_opening, after_closing, finished_under};
 
-use crate::name::{Name, last_entry, place_of_name};
+use crate::name::{Name, has_name, last_entry, place_of_name};
 use std::alloc::{AllocError, Global};
 use std::marker::Model;
 
@@ -49,6 +50,13 @@ impl<T> Openings<T> {
         self.finished.reserve(room)?;
         self.opened.insert(0, noted)?;
         Ok(())
+    }
+
+    /// Whether a name is open. It takes time in the number of names that are.
+    pub fn is_open(&self, name: &str) -> bool
+        ensures { result ≡ has_name name.now self.now.open_names }
+    {
+        has_name(&self.opened, name)
     }
 
     /// Closes a name, and keeps something of what was open under it. It takes no memory.

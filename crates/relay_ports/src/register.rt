@@ -10,24 +10,24 @@ use crate::openings::Openings;
 use std::alloc::{AllocError, Global};
 use std::marker::Model;
 
-// The inputs or the outputs of a host in memory: those that wait to be opened, the names that are open, and those
-// that were finished.
+// The inputs or the outputs of a host in memory: those that wait to be opened, the names that are open, and what is
+// kept of those that were finished.
 #[derive(Debug, Drop)]
-pub(crate) struct Register<T> {
+pub(crate) struct Register<T, K> {
     waiting: Vec<(Name, T)>,
-    openings: Openings<T>,
+    openings: Openings<K>,
 }
 
-impl<T> Model for Register<T> {
+impl<T, K> Model for Register<T, K> {
     ghost use Rattle.relay_ports.specs.Entries.{Entries};
 
-    ghost Value = { Entries T };
+    ghost Value = { Entries T K };
 
     ghost view = { λ r. record { waiting = r.waiting.items; openings = r.openings } };
 }
 
-impl<T> Register<T> {
-    pub fn new(alloc: Global) -> Register<T>
+impl<T, K> Register<T, K> {
+    pub fn new(alloc: Global) -> Register<T, K>
         ensures { result ≡ record { waiting = []; openings = record { open_names = []; finished = [] } } }
     {
         Register {
@@ -54,24 +54,24 @@ impl<T> Register<T> {
         }
     }
 
-    // Closes a name, and keeps what was open under it. It takes no memory.
-    pub fn close(&mut self, name: &str, item: T)
+    // Closes a name, and keeps something of what was open under it. It takes no memory.
+    pub fn close(&mut self, name: &str, kept: K)
         requires { Contains self.old.openings.open_names name.now }
-        ensures { self.new ≡ with_finished name.now item self.old }
+        ensures { self.new ≡ with_finished name.now kept self.old }
     {
-        self.openings.close(name, item);
+        self.openings.close(name, kept);
     }
 
-    // What was finished last under a name.
-    pub fn finished(&self, name: &str) -> Option<&T>
-        ensures item { option_copied result ≡ finished_under name.now self.now.openings }
+    // What was kept of the one that was finished last under a name.
+    pub fn finished(&self, name: &str) -> Option<&K>
+        ensures kept { option_copied result ≡ finished_under name.now self.now.openings }
         ensures found { is_some result ≡ list_any (bytes_eq name.now) (keys_of self.now.openings.finished) }
     {
         self.openings.finished(name)
     }
 }
 
-impl<T: Drop> Register<T> {
+impl<T: Drop, K> Register<T, K> {
     // Adds something that waits under a name, in the place of what waited there.
     pub fn add(&mut self, alloc: Global, name: &str, item: T) -> Result<(), AllocError>
         ensures ok { OnOk result (self.new ≡ with_waiting name.now item self.old) }

@@ -5,7 +5,7 @@ ghost use Rattle.relay_ports.specs.Calls.{Took, WriteFailed};
 use crate::failures::Failed;
 
 /// Takes bytes.
-pub trait Sink: Send + Drop {
+pub trait Sink: Drop {
     /// What is known of it.
     ghost state: { Self → SinkState };
 

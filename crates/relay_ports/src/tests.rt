@@ -127,6 +127,25 @@ fn the_last_output_of_a_name_is_its_text(rt: HostRuntime) -> Result<(), Fail> {
 }
 
 #[test]
+fn names_fail_that_are_told_to(rt: HostRuntime) -> Result<(), Fail> {
+    let alloc = rt.alloc();
+    let mut host = MemHost::new(alloc);
+    let bytes = Vec::from_slice(alloc, b"x")?;
+    host.add_in("in", MemSource::new(bytes, 9, Vec::new(alloc)))?;
+    host.fail_open("in")?;
+    host.fail_open("made")?;
+    host.fail_finish("out")?;
+    for _ in 0..2 {
+        assert_eq!(rt; host.open_in("in").err(), Some(NotOpened::Failed));
+        assert!(rt; write_output(alloc, &mut host, "made", b"text").is_none());
+        assert!(rt; write_output(alloc, &mut host, "out", b"text").is_none());
+    }
+    assert!(rt; has_text(&host, "made", None));
+    assert!(rt; has_text(&host, "out", Some(b"text")));
+    Ok(())
+}
+
+#[test]
 fn blocks_are_lent_and_taken_back(rt: HostRuntime) -> Result<(), Fail> {
     let alloc = rt.alloc();
     let mut host = MemHost::new(alloc);
@@ -138,8 +157,11 @@ fn blocks_are_lent_and_taken_back(rt: HostRuntime) -> Result<(), Fail> {
     let third = host.lend(1)?;
     assert_eq!(rt; (third.number, host.out_count()), (2, 2));
     host.take_back(third);
+    host.set_most_out(1);
+    assert!(rt; host.lend(1).is_err());
     host.take_back(second);
     assert_eq!(rt; host.out_count(), 0);
+    assert_eq!(rt; host.lend(1)?.number, 3);
     Ok(())
 }
 

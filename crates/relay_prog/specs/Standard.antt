@@ -5,18 +5,25 @@ use Rattle.relay_ports.specs.declared.failures.NotOpened.TheVariants.{Failed, No
 use Rattle.relay_ports.specs.declared.tally.Faults.{Faults}
 use Rattle.relay_ports.specs.Told.{counted}
 use Rattle.relay_ports.specs.States.{SourceState, SinkState, InputEnd, OutputEnd}
+use Rattle.relay_prog.specs.declared.os_input.Reading.{Reading}
 use Rattle.relay_prog.specs.declared.os_output.Finishing.{Finishing}
 
--- a source of which only its counts are known
-abbrev pub untold_source : Faults → SourceState
-untold_source c = record { given = None; left = None; faults = c.faults; after = c.after }
+-- a source of which only its counts are known, and the longest slice that a call was handed
+abbrev pub untold_source : Reading → SourceState
+untold_source r = record {
+  given = None;
+  left = None;
+  faults = r.counts.faults;
+  after = r.counts.after;
+  longest = r.longest;
+}
 
 -- a sink of which only its counts are known
 abbrev pub untold_sink : Faults → SinkState
 untold_sink c = record { written = None; faults = c.faults; after = c.after }
 
 -- what is known of an input that was finished
-abbrev pub input_end : List ℕ × Faults → InputEnd
+abbrev pub input_end : List ℕ × Reading → InputEnd
 input_end e = record { name = e.0; state = untold_source e.1 }
 
 -- what is known of an output that was finished

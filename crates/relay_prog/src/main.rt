@@ -4,6 +4,7 @@
 mod os_host;
 mod os_input;
 mod os_output;
+mod spare_blocks;
 mod words;
 
 use os_host::OsHost;

@@ -1,9 +1,11 @@
 ghost use Rattle.std.specs.Prelude.{◌≡◌, ℕ, None, Some, IfOk, map, refl};
-ghost use Rattle.relay_prog.specs.Standard.{faults_after};
+ghost use Rattle.relay_ports.specs.States.{IsFreshSource};
+ghost use Rattle.relay_prog.specs.Standard.{faults_after, untold_source};
 
-use crate::os_input::OsInput;
+use crate::os_input::{OsInput, Reading};
 use crate::os_output::{Finishing, OsOutput};
-use relay_ports::{Failed, Faults, Host, Lender, Lent, NotOpened, Openings, one_more};
+use crate::spare_blocks::SpareBlocks;
+use relay_ports::{Failed, Host, Lender, Lent, NotOpened, Openings, one_more};
 use std::alloc::{AllocError, Global};
 use std::fs::File;
 use std::io::ErrorKind;
@@ -17,9 +19,10 @@ pub struct OsHost<R: Files<File = File> + Drop> {
     /// Whether standard input is open.
     is_open: bool,
     report: OsOutput,
-    inputs: Openings<Faults>,
+    inputs: Openings<Reading>,
     outputs: Openings<Finishing>,
     lender: Lender,
+    spares: SpareBlocks,
     faults: u64,
 }
 
@@ -35,8 +38,14 @@ impl<R: Files<File = File> + Drop> OsHost<R> {
             inputs: Openings::new(alloc),
             outputs: Openings::new(alloc),
             lender: Lender::new(alloc),
+            spares: SpareBlocks::new(alloc),
             faults: 0,
         }
+    }
+
+    // Whether an input or an output of this name is open.
+    fn is_in_use(&self, name: &str) -> bool {
+        self.inputs.is_open(name) || self.outputs.is_open(name)
     }
 
     // What an opening that failed answers; where the outside refused it, that is counted.
@@ -53,7 +62,7 @@ impl<R: Files<File = File> + Drop> OsHost<R> {
 
     // The input of a name.
     fn input_of(&self, name: &str) -> Result<OsInput, NotOpened>
-        ensures { IfOk result (λ i. (i.counts.faults ≡ 0) × (i.counts.after ≡ 0)) }
+        ensures { IfOk result (λ i. IsFreshSource (untold_source i.reading)) }
     {
         if !name.is_empty() {
             return match File::open(&self.files, name) {
@@ -118,11 +127,15 @@ impl<R: Files<File = File> + Drop> Host for OsHost<R> {
         if name.is_empty() {
             self.is_open = false;
         }
-        self.inputs.close(name, input.counts);
+        self.inputs.close(name, input.reading);
     }
 
-    // An output is a file, which is made or emptied.
+    // An output is a file, which is made or emptied. What is open under the same name isn't opened once more: two
+    // writers would write over one another, and an input would be emptied before it is read.
     fn create_out(&mut self, name: &str) -> Result<OsOutput, NotOpened> {
+        if self.is_in_use(name) {
+            return Err(self.refuse(NotOpened::Failed));
+        }
         let file = match File::create(&self.files, name) {
             Ok(file) => file,
             Err(e) => return Err(self.refuse(not_opened(e.kind()))),
@@ -144,11 +157,14 @@ impl<R: Files<File = File> + Drop> Host for OsHost<R> {
     }
 
     fn lend(&mut self, size: usize) -> Result<Lent, AllocError> {
-        self.lender.lend(size)
+        let bytes = self.spares.zeros(size)?;
+        let number = self.lender.enter()?;
+        Ok(Lent { number, bytes })
     }
 
     fn take_back(&mut self, block: Lent) {
-        self.lender.take_back(block);
+        self.lender.take_back(block.number);
+        self.spares.keep(block.bytes);
     }
 
     fn report(&mut self) -> &mut OsOutput {

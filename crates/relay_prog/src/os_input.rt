@@ -1,4 +1,6 @@
 ghost use Rattle.std.specs.Prelude.{◌≡◌, ◌≤◌, IfSome, length};
+ghost use Rattle.relay_ports.specs.States.{IsFreshSource};
+ghost use Rattle.relay_prog.specs.Standard.{untold_source};
 
 use relay_ports::{Failed, Faults, Source};
 use std::fs::File;
@@ -12,29 +14,44 @@ enum Origin {
     File(File),
 }
 
+/// What is known of an input: its counts, and the longest slice that a read was handed, in bytes.
+#[derive(Clone, Copy, Debug)]
+pub struct Reading {
+    pub counts: Faults,
+    pub longest: usize,
+}
+
+impl Reading {
+    /// Nothing was read yet.
+    pub const NONE: Reading = Reading {
+        counts: Faults::NONE,
+        longest: 0,
+    };
+}
+
 /// Standard input or a file, with a count of the reads that failed. It tells no bytes.
 #[derive(Drop)]
 pub struct OsInput {
     origin: Origin,
-    pub counts: Faults,
+    pub reading: Reading,
 }
 
 impl OsInput {
     pub fn stdin(stdin: Stdin) -> OsInput
-        ensures { (result.counts.faults ≡ 0) × (result.counts.after ≡ 0) }
+        ensures { IsFreshSource (untold_source result.reading) }
     {
         OsInput {
             origin: Origin::Stdin(stdin),
-            counts: Faults::NONE,
+            reading: Reading::NONE,
         }
     }
 
     pub fn file(file: File) -> OsInput
-        ensures { (result.counts.faults ≡ 0) × (result.counts.after ≡ 0) }
+        ensures { IsFreshSource (untold_source result.reading) }
     {
         OsInput {
             origin: Origin::File(file),
-            counts: Faults::NONE,
+            reading: Reading::NONE,
         }
     }
 }
@@ -42,20 +59,21 @@ impl OsInput {
 impl Source for OsInput {
     ghost use Rattle.relay_prog.specs.Standard.{untold_source};
 
-    ghost state = { λ s. untold_source s.counts };
+    ghost state = { λ s. untold_source s.reading };
 
     fn read(&mut self, into: &mut [u8]) -> Result<usize, Failed> {
+        self.reading.longest = self.reading.longest.max(into.len());
         let read = match &mut self.origin {
             Origin::Stdin(stdin) => read_uninterrupted(stdin, into),
             Origin::File(file) => read_uninterrupted(file, into),
         };
         match read {
             Some(n) => {
-                self.counts.count_call();
+                self.reading.counts.count_call();
                 Ok(n)
             }
             None => {
-                self.counts.count_failure();
+                self.reading.counts.count_failure();
                 Err(Failed)
             }
         }

@@ -1,4 +1,5 @@
 use crate::os_host::OsHost;
+use crate::spare_blocks::SpareBlocks;
 use relay_ports::{Failed, Host, NotOpened, Sink, Source};
 use std::test::Fail;
 
@@ -28,22 +29,26 @@ fn inputs_are_standard_input_and_files(rt: HostRuntime) -> Result<(), Fail> {
         assert_eq!(rt; input.read(&mut block), answer);
         let first = if answer == Ok(4) { 0 } else { b'#' };
         assert_eq!(rt; block[0], first);
-        assert_eq!(rt; input.counts.faults, u64::from(answer.is_err()));
+        assert_eq!(rt; input.reading.counts.faults, u64::from(answer.is_err()));
     }
     Ok(())
 }
 
 #[test]
-fn outputs_are_files(rt: HostRuntime) -> Result<(), Fail> {
+fn outputs_are_files_that_are_open_once(rt: HostRuntime) -> Result<(), Fail> {
     let mut host = OsHost::new(rt, rt.alloc(), rt.stdin(), rt.stdout());
-    let refused = host.create_out("/dev/null/none").err();
-    assert_eq!(rt; refused, Some(NotOpened::Failed));
+    assert_eq!(rt; host.open_in("/dev/zero").err(), None);
+    // One can't be made, and one is open as an input.
+    for name in ["/dev/null/none", "/dev/zero"] {
+        assert_eq!(rt; host.create_out(name).err(), Some(NotOpened::Failed));
+    }
     let wanted = [("/dev/null", Ok(4)), ("/dev/full", Err(Failed))];
     for (name, taken) in wanted {
         let mut output = host.create_out(name).ok().ok_or("not made")?;
+        assert_eq!(rt; host.create_out(name).err(), Some(NotOpened::Failed));
         assert_eq!(rt; output.write(b""), Ok(0));
         assert_eq!(rt; output.write(b"four"), taken);
-        assert!(rt; !output.finish().failed);
+        assert_eq!(rt; output.counts.faults, u64::from(taken.is_err()));
     }
     Ok(())
 }
@@ -56,5 +61,19 @@ fn blocks_have_zeros_and_new_numbers(rt: HostRuntime) -> Result<(), Fail> {
     assert_eq!(rt; first.bytes.as_slice(), [0u8, 0].as_slice());
     let second = host.lend(1)?;
     assert_eq!(rt; second.number, 1);
+    Ok(())
+}
+
+#[test]
+fn a_block_that_came_back_is_zeros_again(rt: HostRuntime) -> Result<(), Fail> {
+    let mut spares = SpareBlocks::new(rt.alloc());
+    let mut first = spares.zeros(40)?;
+    first.fill(7);
+    spares.keep(first);
+    let second = spares.zeros(2)?;
+    assert_eq!(rt; second.as_slice(), [0u8, 0].as_slice());
+    // It has the room of the first, and the next, for which none is kept, just its own.
+    assert!(rt; second.capacity() >= 40);
+    assert!(rt; spares.zeros(3)?.capacity() < 40);
     Ok(())
 }

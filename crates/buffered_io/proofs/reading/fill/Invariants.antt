@@ -1,4 +1,5 @@
-use Rattle.std.proofs.Common.{◌≡◌, ◌≤◌, ◌-◌, take, length}
+use Rattle.std.proofs.Common.{◌≡◌, ◌≤◌, ◌-◌, take, drop, length}
+use Rattle.std.specs.Prelude.{IfSome}
 use Rattle.buffered_io.specs.Reading.{Read}
 use Rattle.buffered_io.proofs.reading.fill.Given as goal
 
@@ -6,7 +7,8 @@ abbrev pub invariant-pieces : goal.invariant-pieces
 invariant-pieces g l = record {
   size : length l.block ≡ length l.fn.block;
   within : l.at ≤ length l.block;
-  read : Read (take l.at l.block) (g.S.Source.state l.fn.source) (g.S.Source.state l.source);
+  read : Read (length l.fn.block) (take l.at l.block) (g.S.Source.state l.fn.source) (g.S.Source.state l.source);
+  behind : IfSome (g.S.Source.state l.fn.source).given (λ _. drop l.at l.block ≡ drop l.at l.fn.block);
 }
 
 abbrev pub decreases-pieces : goal.decreases-pieces

@@ -11,4 +11,4 @@ pieces-preserved g c = record {
 
 pub returns-in-Err : goal.returns-in-Err
 returns-in-Err g c =
-    broke_further (g.W.Sink.state c.args.sink.now) (g.W.Sink.state c.pieces.sink) (g.W.Sink.state c.write.new.self) c.args.text.now c.pieces.at c.pieces.invariant.within c.pieces.invariant.wrote c.in-Err.ensures.failed
+    broke_further (g.W.Sink.state c.args.sink.now) (g.W.Sink.state c.pieces.sink) (g.W.Sink.state c.write.new.self) c.args.text.now c.pieces.at c.pieces-test.true c.pieces.invariant.wrote c.in-Err.ensures.failed

@@ -7,23 +7,23 @@ use Rattle.relay_app.proofs.framing.cut_input.Goals as goal
 
 pub returns-in_default : goal.returns-in_default
 returns-in_default g c =
-    starved_at_once (framing (g.D.Decoder.state c.args.decoder).codec) c.args.limit (g.S.Source.state c.args.input.now) (g.W.Sink.state c.args.report.now) c.requires.fresh
+    starved_at_once (framing (g.D.Decoder.state c.args.decoder).codec) c.args.reader.now.limit (g.S.Source.state c.args.reader.now.input) (g.W.Sink.state c.args.report.now) c.requires.fresh
 
-pub cut_blocks-requires-clause-fresh : goal.cut_blocks-requires-clause-fresh
-cut_blocks-requires-clause-fresh g c = λ κs within. recode (c.in-Ok.ensures.cut (g.W.Sink.state c.args.report.now))
+pub cut_pieces-requires-clause-fresh : goal.cut_pieces-requires-clause-fresh
+cut_pieces-requires-clause-fresh g c = recode (c.in-Ok.ensures.cut (g.W.Sink.state c.args.report.now))
 
-pub returns-in-Ok-cut_blocks : goal.returns-in-Ok-cut_blocks
-returns-in-Ok-cut_blocks g c =
-    let cut = c.in-Ok-cut_blocks.ensures.cut in
+pub returns-in-Ok-cut_pieces : goal.returns-in-Ok-cut_pieces
+returns-in-Ok-cut_pieces g c =
+    let cut = c.in-Ok-cut_pieces.ensures.cut in
     let codec = (g.D.Decoder.state c.args.decoder).codec in
-    let C : Codec → Type 0 = λ x. Closes (framing x) c.in-Ok-cut_blocks.stop cut.0 (g.W.Sink.state c.args.report.now) (g.W.Sink.state c.close.new.report) c.close.result in
-    closing (framing codec) c.args.limit c.in-Ok-cut_blocks.stop cut.0 (g.S.Source.state c.args.input.now) (g.S.Source.state c.cut_blocks.new.input) c.requires.fresh cut.2
+    let C : Codec → Type 0 = λ x. Closes (framing x) c.in-Ok-cut_pieces.stop cut.0 (g.W.Sink.state c.args.report.now) (g.W.Sink.state c.close.new.report) c.close.result in
+    closing (framing codec) c.args.reader.now.block c.args.reader.now.limit c.in-Ok-cut_pieces.stop cut.0 (g.S.Source.state c.args.reader.now.input) (g.S.Source.state c.cut_pieces.new.reader.input) c.requires.fresh cut.2
     (subst C (c.in-Ok.ensures.cut (g.W.Sink.state c.args.report.now)).codec_same (c.close.ensures (g.D.Decoder.state c.in-Ok.cutter.decoder).codec (g.W.Sink.state c.args.report.now) cut.0 cut.1))
 
 pub returns : goal.returns
 returns g c =
     let codec = (g.D.Decoder.state c.args.decoder).codec in
-    let laws = g.met.D.Decoder g.world.𝓛 g.world.𝓜 g.world.𝓡 ((λ s x. x), (λ x. x), (λ x. x), λ x. x) in
-    let I : Codec → Type 0 = λ x. Interrupted x c.args.limit (g.S.Source.state c.args.input.now) (g.S.Source.state c.cut_blocks.new.input) (g.W.Sink.state c.args.report.now) (g.W.Sink.state c.cut_blocks.new.report) in
-    starved_on codec (g.S.Source.state c.args.input.now) c.stable_units.ensures (laws.counted c.args.decoder [] c.requires.fed).2 c.requires.fresh
+    let laws = g.met.D.Decoder in
+    let I : Codec → Type 0 = λ x. Interrupted x c.args.reader.now.block c.args.reader.now.limit (g.S.Source.state c.args.reader.now.input) (g.S.Source.state c.cut_pieces.new.reader.input) (g.W.Sink.state c.args.report.now) (g.W.Sink.state c.cut_pieces.new.report) in
+    starved_on codec (g.S.Source.state c.args.reader.now.input) c.stable_units.ensures (laws.counted c.args.decoder [] c.requires.fed).2 c.requires.fresh
     (subst I (c.in-Ok.ensures.cut (g.W.Sink.state c.args.report.now)).codec_same c.in-Err.ensures.interrupted)

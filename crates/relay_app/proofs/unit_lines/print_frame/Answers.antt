@@ -9,4 +9,4 @@ use Rattle.relay_app.proofs.unit_lines.print_frame.Goals as goal
 pub returns : goal.returns
 returns g c =
     let head = ap (λ n. entry_text 70 c.args.at n) c.length.ensures ∙ sym (frame_head (decimal c.args.at) (decimal (length (bytes_of c.args.frame.now)))) in
-    prints_both (prints_both (prints_same head c.put_entry.ensures) c.print_bytes.ensures) c.put.ensures
+    prints_both (prints_both (prints_same head c.put_entry.ensures.prints) c.print_bytes.ensures) c.put.ensures.prints

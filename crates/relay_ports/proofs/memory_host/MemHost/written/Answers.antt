@@ -11,8 +11,8 @@ use Rattle.relay_ports.proofs.memory_host.MemHost.written.Goals as goal
 
 pub returns-in-Some : goal.returns-in-Some
 returns-in-Some c = record {
-  text = ap Some c.bytes.ensures ∙ ap (λ o. option_map (λ s. s.written) (option_copied o)) (sym c.in-Some.is)
-      ∙ ap (λ o. option_map (λ s. s.written) o) c.finished.ensures.item
+  text = ap Some c.bytes.ensures ∙ ap (λ o. option_map (λ f. f.sink.written) (option_copied o)) (sym c.in-Some.is)
+      ∙ ap (λ o. option_map (λ f. f.sink.written) o) c.finished.ensures.kept
       ∙ text-of_entries c.args.name.now c.self.inside.outputs.openings.finished
       ∙ ap (λ (h : Hosting). text_of c.args.name.now (map output_end h.outputs.openings.finished)) c.self.view_is;
   found = ap (λ o. is_some o) (sym c.in-Some.is) ∙ c.finished.ensures.found
@@ -21,8 +21,8 @@ returns-in-Some c = record {
 
 pub returns-in-None : goal.returns-in-None
 returns-in-None c = record {
-  text = ap (λ o. option_map (λ s. s.written) (option_copied o)) (sym c.in-None.is)
-      ∙ ap (λ o. option_map (λ s. s.written) o) c.finished.ensures.item
+  text = ap (λ o. option_map (λ f. f.sink.written) (option_copied o)) (sym c.in-None.is)
+      ∙ ap (λ o. option_map (λ f. f.sink.written) o) c.finished.ensures.kept
       ∙ text-of_entries c.args.name.now c.self.inside.outputs.openings.finished
       ∙ ap (λ (h : Hosting). text_of c.args.name.now (map output_end h.outputs.openings.finished)) c.self.view_is;
   found = ap (λ o. is_some o) (sym c.in-None.is) ∙ c.finished.ensures.found

@@ -14,7 +14,7 @@ returns-in-Some-clause-ok g c =
     ∙ entry_replaced_at (bytes_eq c.args.name.now) c.self.inside.waiting.items (c.in_ok-noted.noted, c.args.item) c.in-Some.at place
     ∙ ap (λ n. (n, c.args.item) ∷ remove_entry (bytes_eq c.args.name.now) c.self.inside.waiting.items) c.in_ok-noted.ensures in
     (λ i. record { waiting = waiting i; openings = c.self.inside.openings })
-    ∙ ap (λ (e : Entries g.row.T.Denot). with_waiting c.args.name.now c.args.item e) c.self.view_is
+    ∙ ap (λ (e : Entries g.row.T.Denot g.row.K.Denot). with_waiting c.args.name.now c.args.item e) c.self.view_is
 
 pub returns-in-None-clause-ok : goal.returns-in-None-clause-ok
 returns-in-None-clause-ok g c =
@@ -23,4 +23,4 @@ returns-in-None-clause-ok g c =
     let waiting = c.in_ok-insert.ensures.items ∙ ap (λ n. (n, c.args.item) ∷ c.self.inside.waiting.items) c.in_ok-noted.ensures
     ∙ ap (λ es. (c.args.name.now, c.args.item) ∷ es) (sym (entry_removed_nowhere (bytes_eq c.args.name.now) c.self.inside.waiting.items nowhere)) in
     (λ i. record { waiting = waiting i; openings = c.self.inside.openings })
-    ∙ ap (λ (e : Entries g.row.T.Denot). with_waiting c.args.name.now c.args.item e) c.self.view_is
+    ∙ ap (λ (e : Entries g.row.T.Denot g.row.K.Denot). with_waiting c.args.name.now c.args.item e) c.self.view_is

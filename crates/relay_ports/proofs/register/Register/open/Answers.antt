@@ -10,4 +10,4 @@ returns-in-None-clause-item g c =
     let nowhere : position (λ e. bytes_eq c.args.name.now e.0) c.self.inside.waiting.items ≡ None =
     ap (λ es. position (λ e. bytes_eq c.args.name.now e.0) es) (sym c.deref.ensures.value) ∙ sym c.place_of_entry.ensures ∙ c.in-None.is in
     sym (entry_nowhere (bytes_eq c.args.name.now) c.self.inside.waiting.items nowhere)
-    ∙ ap (λ (e : Entries g.row.T.Denot). waiting_under c.args.name.now e) c.self.view_is
+    ∙ ap (λ (e : Entries g.row.T.Denot g.row.K.Denot). waiting_under c.args.name.now e) c.self.view_is
