@@ -1,0 +1,3 @@
+pub mod Batches
+pub mod Crewed
+pub mod Turns

@@ -1,0 +1,5 @@
+pub mod Counting
+pub mod Lists
+pub mod Moves
+pub mod Sizes
+pub mod Views

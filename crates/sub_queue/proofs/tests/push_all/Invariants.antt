@@ -1,0 +1,9 @@
+use Rattle.std.proofs.Common.{◌≡◌, None}
+use Rattle.sub_queue.specs.Ends.{end_of}
+use Rattle.sub_queue.proofs.tests.push_all.Given as goal
+
+abbrev pub invariant-numbers : goal.invariant-numbers
+invariant-numbers g l = end_of l.feed.sent ≡ None
+
+abbrev pub invariant-tries : goal.invariant-tries
+invariant-tries g l = end_of l.feed.sent ≡ None

@@ -1,0 +1,4 @@
+pub mod Ends
+pub mod Line
+pub mod Sizes
+pub mod Taking
