@@ -40,7 +40,9 @@ EXCEPTIONS = {
     "let _tail = self.tailroom();": "code", "old:": "a keyword of edits", "new:": "a keyword of edits", "file:": "a keyword of edits",
     "hex": "a crate of the kit", "itoa": "a crate of the kit", "memchr": "a crate of the kit",
     "clap": "a crate of the kit", "thiserror": "a crate of the kit", "atomic_table": "a crate of the kit",
-    "crossbeam_queue": "a crate of the kit", "circular_buffer": "a crate of the kit",
+    "crossbeam_queue": "a crate of the kit", "crossbeam_utils": "a crate of the kit",
+    "for_each_mut": "a call of the standard library", "join_mut": "a call of the standard library",
+    "circular_buffer": "a crate of the kit",
     "raw": "a word of a command", "upper": "a word of a command", "wait": "a word of a command",
     "LengthDelimitedCodec": "a type of tokio-util", "LinesCodec": "a type of tokio-util",
     "LengthFieldBasedFrameDecoder": "a type of Netty", "LineBasedFrameDecoder": "a type of Netty",
@@ -80,10 +82,12 @@ class Names:
     def __init__(self):
         self.all = set()        # every name
         self.members = set()    # (type or module, name)
-        self.clauses = {}       # function: its clauses
+        self.clauses = {}       # (crate, function): its clauses
+        self.crates = set()
         self.defined = set()    # definitions of specs/ and their fields
         for crate in sorted(os.listdir(CRATES)):
             self.all.add(crate)
+            self.crates.add(crate)
             for path in glob.glob(os.path.join(CRATES, crate, "src", "*.rt")):
                 self.read_source(crate, path)
             for kind in ("specs", "proofs"):
@@ -114,10 +118,10 @@ class Names:
                 if found:
                     function = found.group(1)
                     self.add(function, crate, module, owner)
-                    self.clauses.setdefault(function, set())
+                    self.clauses.setdefault((crate, function), set())
                 clause = CLAUSE.match(line)
                 if clause and function:
-                    self.clauses[function].add(clause.group(1))
+                    self.clauses[crate, function].add(clause.group(1))
                     self.all.add(clause.group(1))
                 for pattern in (ITEM, GHOST, FIELD):
                     item = pattern.match(line)
@@ -225,18 +229,27 @@ def wrong_names(prose, names):
             if not names.knows(token)]
 
 
+HEADING = re.compile(r"^\*\*((?:`\w+`(?:, | and )?)+)\*\*", re.M)
+
+
 def wrong_clauses(prose, names):
-    """Names in parentheses that are no clause of a call in the same item, and nothing else that carries a claim."""
-    wrong = []
-    claims = prose.split("\n## What is only tested")[0]
-    for item in re.split(r"\n(?=[-#|*]|\n)", claims):
-        cited = re.findall(r"\((`[^()]*`)\)", item)
-        calls = {part for token in re.findall(r"`([^`]+)`", item) for part in re.split(r"::|\.", token)}
-        clauses = set().union(*(names.clauses.get(call, set()) for call in calls))
-        for group in cited:
+    """Names in parentheses that are no clause of a call in the same item, and nothing else that carries a claim.
+
+    A call is looked for in the crates of the heading above its item, and in those that the item itself names."""
+    wrong, crates = [], set()
+    functions = {function for _, function in names.clauses}
+    for item in re.split(r"\n(?=[-#|*]|\n)", prose.split("\n## What is only tested")[0]):
+        heading = HEADING.search(item)
+        if heading:
+            crates = set(re.findall(r"`(\w+)`", heading.group(1))) & names.crates
+        tokens = re.findall(r"`([^`]+)`", item)
+        calls = {part for token in tokens for part in re.split(r"::|\.", token)}
+        here = crates | (calls & names.crates)
+        clauses = set().union(*(names.clauses.get((crate, call), set()) for crate in here for call in calls))
+        for group in re.findall(r"\((`[^()]*`)\)", item):
             for token in re.findall(r"`([^`]+)`", group):
                 parts = re.split(r"::|\.", token)
-                carried = parts[0] in clauses or parts[-1] in names.defined or parts[-1] in names.clauses
+                carried = parts[0] in clauses or parts[-1] in names.defined or parts[-1] in functions
                 if not carried and token not in EXCEPTIONS and not any(p.search(token) for p in NO_NAME):
                     wrong.append(f"`{token}` is no clause of a call in: {' '.join(item.split())[:90]}..")
     return wrong
@@ -254,7 +267,11 @@ def wrong_in(text, names, proved):
 
 TRIED = """# A document with mistakes
 
+**`relay_app`**: a crate.
 - `run_plain` answers (`usage`), and (`no_such_clause`). `LengthDecoder::no_such_call` isn't there.
+
+**`buffered_io`**: another crate.
+- `run_plain` counts what failed (`report_faults`).
 
     $ printf '\\000' | ./yukolese frames length,field=1,strip=1
     F 0 0 61
@@ -265,7 +282,8 @@ TRIED = """# A document with mistakes
 def tries_itself(names):
     """What the check doesn't see in a document with three mistakes."""
     wrong = "\n".join(wrong_in(TRIED, names, True))
-    wanted = ["no_such_call` is no name", "no_such_clause` is no clause", "prints ['F 0 0 -', 'end 1']"]
+    wanted = ["no_such_call` is no name", "no_such_clause` is no clause", "report_faults` is no clause",
+              "prints ['F 0 0 -', 'end 1']"]
     return [f"not seen: {text}" for text in wanted if text not in wrong]
 
 

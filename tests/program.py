@@ -371,6 +371,29 @@ def closed_streams():
         same(closed, (done.returncode, done.stdout, done.stderr), result)
 
 
+def streams_that_would_block():
+    """A stream that doesn't wait is one that fails where it would have to: the program doesn't ask again."""
+    reader, writer = os.pipe()
+    os.set_blocking(reader, False)
+    os.write(writer, b"\1a\2")
+    done = subprocess.run([LAUNCHER, *frames_words(1, 1)], stdin=reader, capture_output=True, timeout=SECONDS)
+    same("input", (done.returncode, done.stdout, done.stderr), (4, b"F 0 1 61\nend 3\n", b"source\n"))
+    os.close(writer)
+    os.close(reader)
+    reader, writer = os.pipe()
+    os.set_blocking(writer, False)
+    try:
+        while True:
+            os.write(writer, b"x" * 4096)
+    except BlockingIOError:
+        pass
+    done = subprocess.run([LAUNCHER, *frames_words(1, 1)], input=b"\1a", stdout=writer, stderr=subprocess.PIPE,
+                          timeout=SECONDS)
+    same("report", (done.returncode, done.stderr), (10, b"report\n"))
+    os.close(writer)
+    os.close(reader)
+
+
 def within(kib):
     """Limits the address space of a child."""
     return lambda: resource.setrlimit(resource.RLIMIT_AS, (kib << 10, kib << 10))
@@ -538,8 +561,8 @@ def first_starts():
 
 
 CHECKS = [worked_examples, bad_words, named_inputs, random_frames, random_streams, odd_pieces, long_frames, real_files,
-          failing_outside, closed_streams, tiny_address_space, bounded_memory, hostile_streams, linear_time,
-          linear_time_of_long_frames, launcher, first_starts]
+          failing_outside, closed_streams, streams_that_would_block, tiny_address_space, bounded_memory,
+          hostile_streams, linear_time, linear_time_of_long_frames, launcher, first_starts]
 
 
 def main():
