@@ -1,3 +1,4 @@
+mod drops;
 mod ends;
 mod example;
 mod fronts;
