@@ -5,6 +5,7 @@ use frame_delim::DelimDecoder;
 use frame_head::{Codec, LineEnd, check};
 use frame_length::{FixedDecoder, LengthDecoder};
 use frame_line::LineDecoder;
+use frame_rule::FeedFault;
 use std::test::Fail;
 
 #[test]
@@ -54,5 +55,15 @@ fn any_decoder(rt: HostRuntime) -> Result<(), Fail> {
     let decoder = AnyDecoder::new(codec);
     let got = cut_in_pieces(rt.alloc(), decoder, b"a\nb\r\n", 4)?;
     assert_eq!(rt; got.as_str(), "F 0 610a62,");
+    Ok(())
+}
+
+#[test]
+fn refusals(rt: HostRuntime) -> Result<(), Fail> {
+    let alloc = rt.alloc();
+    let refused = format!(in alloc; "{}", FeedFault::NoMemory)?;
+    assert_eq!(rt; refused.as_str(), "no memory");
+    let dead = format!(in alloc; "{}", FeedFault::Dead)?;
+    assert_eq!(rt; dead.as_str(), "the decoder is dead");
     Ok(())
 }
