@@ -13,3 +13,6 @@ mod writing;
 pub use over::FrameOver;
 pub use parts::{write_frames, write_parts};
 pub use writing::write_frame;
+
+#[cfg(test)]
+mod tests;
