@@ -29,7 +29,7 @@ impl Release for Counter {
     }
 }
 
-fn counter(word: &Arc<AtomicU64, Global>) -> Result<Counter, AllocError> {
+fn new_counter(word: &Arc<AtomicU64, Global>) -> Result<Counter, AllocError> {
     Ok(Counter {
         word: Arc::try_clone(word)?,
         runs: 0,
@@ -43,7 +43,7 @@ fn counted(
     word: &Arc<AtomicU64, Global>,
     mint: &mut Mint,
 ) -> Chain<'static, Counter> {
-    let owner = counter(word).expect(rt, "memory for an owner");
+    let owner = new_counter(word).expect(rt, "memory for an owner");
     let bytes = Vec::from_slice(alloc, b"ab").expect(rt, "memory for bytes");
     let node = IoBuf::take_ownership(alloc, bytes, owner, mint).ok();
     let node = node.expect(rt, "memory for a node");
