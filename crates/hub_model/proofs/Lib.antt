@@ -1,0 +1,4 @@
+pub mod Ranges
+pub mod Serving
+pub mod Steps
+pub mod Blocking

@@ -1,0 +1,3 @@
+pub mod Hub
+pub mod Laws
+pub mod Examples
