@@ -7,8 +7,8 @@ use Rattle.frame_rule.specs.Units.{units_of}
 use Rattle.examples.proofs.Pieces.{joined_more, fed_on, ended_on}
 use Rattle.examples.proofs.decode.Goals as goal
 
-pub feed_copy-requires-clause-room : goal.feed_copy-requires-clause-room
-feed_copy-requires-clause-room g c =
+pub feed_copy-requires : goal.feed_copy-requires
+feed_copy-requires g c =
     let laws = g.met.D.Decoder in
     let fed = laws.counted c.pieces.decoder _ c.pieces.invariant.stands in
     let some = length-flat_map-take (λ (p : Bor (List ℕ)). p.now) c.args.pieces.now c.pieces.bytes-index (record { ref_ptr = (0, 0); now = [] }) c.pieces-test.true in
