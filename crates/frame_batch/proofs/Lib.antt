@@ -1,0 +1,3 @@
+pub mod InWindows
+pub mod InParts
+mod InNodes

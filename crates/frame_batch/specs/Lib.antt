@@ -1,0 +1,4 @@
+pub mod Batches
+pub mod Spots
+pub mod Parts
+pub mod Laws
