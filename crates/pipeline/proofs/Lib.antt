@@ -1,0 +1,11 @@
+mod Meanings
+mod Steps
+mod Thinning
+mod Handing
+mod Working
+mod Swapping
+mod Sifting
+mod Raising
+mod Clearing
+mod Cutting
+mod Reading

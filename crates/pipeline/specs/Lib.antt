@@ -1,0 +1,5 @@
+pub mod Plain
+pub mod Meanings
+pub mod Stages
+pub mod Nodes
+pub mod Laws
