@@ -1,5 +1,5 @@
 ghost use Rattle.std.specs.Prelude.{◌≡◌, ◌↔◌, ℕ, ◌+◌, ◌-◌, ◌<◌, ◌≤◌, List, [], ◌++◌, true, length, take, drop, min};
-ghost use Rattle.std.specs.Prelude.{vec_len, vec_capacity, Contains, Ok, IfOk, IsErr, OnErr, MatchResult};
+ghost use Rattle.std.specs.Prelude.{vec_len, vec_capacity, Contains, Ok, IfOk, IfErr, IsErr, OnErr, MatchResult};
 ghost use Rattle.relay_ports.specs.States.{TellsEnd};
 ghost use Rattle.relay_ports.specs.Calls.{KeepsBehind};
 ghost use Rattle.relay_ports.specs.Memory.{IsFull, new_source, new_sink, source_state, sink_state};
@@ -86,13 +86,14 @@ impl Source for MemSource {
         ensures count { IfOk result (λ n. n ≡ min (min (length into.old) self.old.most) (length self.old.left)) }
         ensures read { IfOk result (λ n. self.new ≡ after_read (length into.old) n self.old) }
         ensures failed { OnErr result (self.new ≡ after_failed_read (length into.old) self.old) }
+        ensures kind { IfErr result (λ e. e ≡ Failed.OTHER) }
     {
         let call = self.calls;
         self.calls = one_more(call);
         self.longest = self.longest.max(into.len());
         if self.fails.contains(&call) {
             self.counts.count_failure();
-            return Err(Failed);
+            return Err(Failed::OTHER);
         }
         self.counts.count_call();
         let left = self.bytes.len() - self.at;
@@ -201,6 +202,7 @@ impl Sink for MemSink {
         ensures empty { length piece.now ≡ 0 → (result ≡ Ok 0) × (self.new ≡ self.old) }
         ensures written { IfOk result (λ n. 0 < n → self.new ≡ after_write (take n piece.now) self.old) }
         ensures failed { OnErr result (self.new ≡ after_failed_write self.old) }
+        ensures kind { IfErr result (λ e. e ≡ Failed.OTHER) }
     {
         if piece.is_empty() {
             return Ok(0);
@@ -209,7 +211,7 @@ impl Sink for MemSink {
         self.calls = one_more(self.calls);
         if full {
             self.counts.count_failure();
-            return Err(Failed);
+            return Err(Failed::OTHER);
         }
         self.counts.count_call();
         let n = piece.len().min(self.stop_at - self.bytes.len());

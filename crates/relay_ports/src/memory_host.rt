@@ -261,6 +261,7 @@ impl Host for MemHost {
     fn finish_out(&mut self, name: &str, output: MemSink) -> Result<(), Failed>
         requires { Contains self.old.outputs.openings.open_names name.now }
         ensures fails { is_err result ≡ has_name name.now self.old.failing_finishings }
+        ensures kind { IfErr result (λ e. e ≡ Failed.OTHER) }
         ensures finished { self.new ≡ after_finish_out name.now output (is_err result) self.old }
     {
         let failed = has_name(&self.failing_finishings, name);
@@ -273,7 +274,7 @@ impl Host for MemHost {
         );
         if failed {
             self.faults = one_more(self.faults);
-            return Err(Failed);
+            return Err(Failed::OTHER);
         }
         Ok(())
     }

@@ -20,10 +20,10 @@ fn a_source_gives_its_bytes_in_order(rt: HostRuntime) -> Result<(), Fail> {
     let mut source = MemSource::new(bytes, 2, vec![in alloc; 1u64, 3, 4]?);
     let wanted: [(usize, &[u8], Result<usize, Failed>); 9] = [
         (4, b"ab##", Ok(2)),
-        (4, b"####", Err(Failed)),
+        (4, b"####", Err(Failed::OTHER)),
         (1, b"c", Ok(1)),
-        (4, b"####", Err(Failed)),
-        (0, b"", Err(Failed)),
+        (4, b"####", Err(Failed::OTHER)),
+        (0, b"", Err(Failed::OTHER)),
         (0, b"", Ok(0)),
         (4, b"de##", Ok(2)),
         (4, b"####", Ok(0)),
@@ -45,11 +45,11 @@ fn a_sink_takes_up_to_its_stop(rt: HostRuntime) -> Result<(), Fail> {
         .ok_or("no room")?;
     let wanted: [(&[u8], Result<usize, Failed>, &[u8]); 7] = [
         (b"ab", Ok(2), b"ab"),
-        (b"cd", Err(Failed), b"ab"),
+        (b"cd", Err(Failed::OTHER), b"ab"),
         (b"", Ok(0), b"ab"),
         (b"c", Ok(1), b"abc"),
         (b"defg", Ok(2), b"abcde"),
-        (b"f", Err(Failed), b"abcde"),
+        (b"f", Err(Failed::OTHER), b"abcde"),
         (b"", Ok(0), b"abcde"),
     ];
     for (piece, taken, written) in wanted {
@@ -177,8 +177,14 @@ fn a_report_is_lent_and_errors_are_shown(rt: HostRuntime) -> Result<(), Fail> {
     );
     assert_eq!(rt; host.report().write(b"ab"), Ok(2));
     assert_eq!(rt; host.sink().bytes(), b"ab".as_slice());
-    let shown = format!(in alloc; "{Failed}, {}, {}", NotOpened::Failed, NotOpened::NoMemory)?;
-    let wanted = "a call of the outside failed, the outside refused it, memory was refused";
+    let shown = format!(in alloc;
+        "{}, {}, {}",
+        Failed::OTHER,
+        NotOpened::Failed,
+        NotOpened::NoMemory
+    )?;
+    let wanted =
+        "a call of the outside failed: other error, the outside refused it, memory was refused";
     assert_eq!(rt; shown.as_str(), wanted);
     Ok(())
 }

@@ -146,14 +146,17 @@ impl<R: Files<File = File> + Drop> Host for OsHost<R> {
         Ok(OsOutput::file(file))
     }
 
-    fn finish_out(&mut self, name: &str, output: OsOutput) -> Result<(), Failed> {
-        let finishing = output.finish();
+    fn finish_out(&mut self, name: &str, mut output: OsOutput) -> Result<(), Failed> {
+        let flushed = output.flush();
+        let finishing = Finishing {
+            counts: output.counts,
+            failed: flushed.is_err(),
+        };
         self.outputs.close(name, finishing);
         if finishing.failed {
             self.faults = one_more(self.faults);
-            return Err(Failed);
         }
-        Ok(())
+        flushed
     }
 
     fn lend(&mut self, size: usize) -> Result<Lent, AllocError> {

@@ -1,4 +1,4 @@
-ghost use Rattle.std.specs.Prelude.{◌≡◌, ◌≤◌, IfSome, length};
+ghost use Rattle.std.specs.Prelude.{◌≡◌, ◌≤◌, IfOk, length};
 ghost use Rattle.relay_ports.specs.States.{IsFreshSource};
 ghost use Rattle.relay_prog.specs.Standard.{untold_source};
 
@@ -68,28 +68,25 @@ impl Source for OsInput {
             Origin::File(file) => read_uninterrupted(file, into),
         };
         match read {
-            Some(n) => {
-                self.reading.counts.count_call();
-                Ok(n)
-            }
-            None => {
-                self.reading.counts.count_failure();
-                Err(Failed)
-            }
+            Ok(_) => self.reading.counts.count_call(),
+            Err(_) => self.reading.counts.count_failure(),
         }
+        read
     }
 }
 
-// Reads once; a read that was interrupted is made again. Nothing stands for a failure.
-fn read_uninterrupted<R: Read>(reader: &mut R, into: &mut [u8]) -> Option<usize>
-    ensures { IfSome result (λ n. n ≤ length into.old) }
+// Reads once; a read that was interrupted is made again.
+fn read_uninterrupted<R: Read>(reader: &mut R, into: &mut [u8]) -> Result<usize, Failed>
+    ensures { IfOk result (λ n. n ≤ length into.old) }
 {
     for _ in 0..u64::MAX {
         match reader.read(into) {
-            Ok(n) => return Some(n),
+            Ok(n) => return Ok(n),
             Err(e) if e.kind() == ErrorKind::Interrupted => {}
-            Err(_) => return None,
+            Err(e) => return Err(Failed { kind: e.kind() }),
         }
     }
-    None
+    Err(Failed {
+        kind: ErrorKind::Interrupted,
+    })
 }

@@ -1,4 +1,4 @@
-ghost use Rattle.std.specs.Prelude.{◌≡◌, ◌<◌, ◌≤◌, IfSome, length};
+ghost use Rattle.std.specs.Prelude.{◌≡◌, ◌<◌, ◌≤◌, IfOk, length};
 
 use relay_ports::{Failed, Faults, Sink};
 use std::fs::File;
@@ -46,17 +46,14 @@ impl OsOutput {
     }
 
     /// Hands on what a writer may hold back.
-    pub fn finish(mut self) -> Finishing
-        ensures { result.counts ≡ self.counts }
+    pub fn flush(&mut self) -> Result<(), Failed>
+        ensures { self.new.counts ≡ self.old.counts }
     {
-        let failed = match &mut self.target {
-            Target::Stdout(stdout) => stdout.flush().is_err(),
-            Target::File(file) => file.flush().is_err(),
+        let flushed = match &mut self.target {
+            Target::Stdout(stdout) => stdout.flush(),
+            Target::File(file) => file.flush(),
         };
-        Finishing {
-            counts: self.counts,
-            failed,
-        }
+        flushed.map_err(|e| Failed { kind: e.kind() })
     }
 }
 
@@ -74,30 +71,30 @@ impl Sink for OsOutput {
             Target::File(file) => write_uninterrupted(file, piece),
         };
         match written {
-            Some(n) => {
-                self.counts.count_call();
-                Ok(n)
-            }
-            None => {
-                self.counts.count_failure();
-                Err(Failed)
-            }
+            Ok(_) => self.counts.count_call(),
+            Err(_) => self.counts.count_failure(),
         }
+        written
     }
 }
 
-// Writes once; a write that was interrupted is made again. Nothing stands for a failure, and a write that takes nothing
-// is one.
-fn write_uninterrupted<W: Write>(writer: &mut W, piece: &[u8]) -> Option<usize>
-    ensures { IfSome result (λ n. (0 < n) × (n ≤ length piece.now)) }
+// Writes once; a write that was interrupted is made again. A write that takes nothing is a failure.
+fn write_uninterrupted<W: Write>(writer: &mut W, piece: &[u8]) -> Result<usize, Failed>
+    ensures { IfOk result (λ n. (0 < n) × (n ≤ length piece.now)) }
 {
     for _ in 0..u64::MAX {
         match writer.write(piece) {
-            Ok(0) => return None,
-            Ok(n) => return Some(n),
+            Ok(0) => {
+                return Err(Failed {
+                    kind: ErrorKind::WriteZero,
+                });
+            }
+            Ok(n) => return Ok(n),
             Err(e) if e.kind() == ErrorKind::Interrupted => {}
-            Err(_) => return None,
+            Err(e) => return Err(Failed { kind: e.kind() }),
         }
     }
-    None
+    Err(Failed {
+        kind: ErrorKind::Interrupted,
+    })
 }

@@ -1,6 +1,7 @@
 use crate::os_host::OsHost;
 use crate::spare_blocks::SpareBlocks;
 use relay_ports::{Failed, Host, NotOpened, Sink, Source};
+use std::io::ErrorKind;
 use std::test::Fail;
 
 #[test]
@@ -21,12 +22,15 @@ fn inputs_are_standard_input_and_files(rt: HostRuntime) -> Result<(), Fail> {
     let files = [
         ("/dev/zero", Ok(4)),
         ("/dev/null", Ok(0)),
-        ("/", Err(Failed)),
+        ("/", Err(ErrorKind::IsADirectory)),
     ];
     for (name, answer) in files {
         let mut input = host.open_in(name).ok().ok_or("not opened")?;
         let mut block = [b'#'; 4];
-        assert_eq!(rt; input.read(&mut block), answer);
+        assert_eq!(rt;
+            input.read(&mut block),
+            answer.map_err(|kind| Failed { kind })
+        );
         let first = if answer == Ok(4) { 0 } else { b'#' };
         assert_eq!(rt; block[0], first);
         assert_eq!(rt; input.reading.counts.faults, u64::from(answer.is_err()));
@@ -42,12 +46,18 @@ fn outputs_are_files_that_are_open_once(rt: HostRuntime) -> Result<(), Fail> {
     for name in ["/dev/null/none", "/dev/zero"] {
         assert_eq!(rt; host.create_out(name).err(), Some(NotOpened::Failed));
     }
-    let wanted = [("/dev/null", Ok(4)), ("/dev/full", Err(Failed))];
+    let wanted = [
+        ("/dev/null", Ok(4)),
+        ("/dev/full", Err(ErrorKind::StorageFull)),
+    ];
     for (name, taken) in wanted {
         let mut output = host.create_out(name).ok().ok_or("not made")?;
         assert_eq!(rt; host.create_out(name).err(), Some(NotOpened::Failed));
         assert_eq!(rt; output.write(b""), Ok(0));
-        assert_eq!(rt; output.write(b"four"), taken);
+        assert_eq!(rt;
+            output.write(b"four"),
+            taken.map_err(|kind| Failed { kind })
+        );
         assert_eq!(rt; output.counts.faults, u64::from(taken.is_err()));
     }
     Ok(())
