@@ -1,7 +1,6 @@
 -- What a node ends as, once its window was lent.
 use Rattle.std.specs.Prelude.{[], Result, Ok, Err}
-use Rattle.std.specs.Borrow.{Fml, RattleType, MutBor, LendsIfOk}
-use mir.Syntax.{named}
+use Rattle.std.specs.Borrow.{Fml, RattleType, MutBor, Lends, LendsIfOk}
 use Rattle.buffer_model.specs.Share.{Share, looked}
 use Rattle.buffer_model.specs.Segment.{Segment, shared_as}
 use Rattle.storage.specs.declared.hold.Barred.{Barred}
@@ -9,7 +8,8 @@ use Rattle.storage.specs.declared.hold.Barred.TheVariants.{SharedNow, Unmanaged}
 use Rattle.iobuf_node.specs.Mine.{seen}
 use Rattle.iobuf_node.specs.declared.mine.Mine.{Mine}
 use Rattle.iobuf_node.specs.contracts.mine.Mine.{the_row as mine_row}
-use Rattle.iobuf_node.specs.contracts.node.IoBuf.{the_row}
+use Rattle.iobuf_node.specs.declared.wrapped.Wrapped.{Ghosts}
+use Rattle.iobuf_node.specs.contracts.node.IoBufOf.{the_row}
 
 module _ {O : Type 0} where
   -- a share after a refused claim: the look that found others is counted and noted
@@ -22,7 +22,11 @@ module _ {O : Type 0} where
   unlent (Ok lent) n = n
   unlent (Err reason) n = shared_as (refused_by reason n.share) n
 
-module _ (O : RattleType) (n : MutBor (Segment O.Denot)) where
+module _ (W O : RattleType) (g : Ghosts W.Denot) (n : MutBor (Segment O.Denot)) where
   -- a node ends as its window was left; where the window wasn't lent, its look alone is noted
   abbrev pub lends_mine : Result (MutBor (Mine O.Denot)) Barred → Fml
-  lends_mine r = LendsIfOk (the_row (record { mir = named 1; lft = [] }) O) (mine_row O) n r seen (unlent r n.now)
+  lends_mine r = LendsIfOk (the_row W O g) (mine_row O) n r seen (unlent r n.now)
+
+  -- a node that is alone ends as its window was left
+  abbrev pub lends_alone : MutBor (Mine O.Denot) → Fml
+  lends_alone r = Lends (the_row W O g) (mine_row O) n r seen

@@ -9,6 +9,8 @@ mod node;
 mod share;
 #[cfg(test)]
 mod tests;
+mod wrapped;
 
 pub use mine::Mine;
-pub use node::IoBuf;
+pub use node::{IoBuf, IoBufOf};
+pub use wrapped::Wrapped;

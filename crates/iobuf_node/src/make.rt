@@ -9,19 +9,16 @@ ghost use Rattle.storage.specs.Held.{with_bytes};
 ghost use Rattle.storage.specs.Made.{Makes};
 
 use crate::mine::Mine;
-use crate::node::IoBuf;
+use crate::node::IoBufOf;
+use crate::wrapped::Wrapped;
 use relay_ports::Lent;
 use share_count::Mint;
 use std::alloc::{AllocError, Global};
 use storage::{Managed, Told};
 
-impl<O: Told> IoBuf<'static, O> {
+impl<W: Wrapped, O: Told> IoBufOf<W, O> {
     /// A node without data on a new storage of `cap` zero bytes. Four allocations: the block, and three for its count.
-    pub fn create(
-        alloc: Global,
-        cap: usize,
-        mint: &mut Mint,
-    ) -> Result<IoBuf<'static, O>, AllocError>
+    pub fn create(alloc: Global, cap: usize, mint: &mut Mint) -> Result<IoBufOf<W, O>, AllocError>
         ensures node { IfOk result (λ n. n ≡ between_rooms 0 cap [] n.share) }
         ensures storage { IfOk result (λ n. IsNew mint.old mint.new own n.share) }
         ensures mint { MatchResult result (λ _. Adds 1 mint.old mint.new) (λ _. mint.new ≡ mint.old) }
@@ -41,7 +38,7 @@ impl<O: Told> IoBuf<'static, O> {
         head: usize,
         tail: usize,
         mint: &mut Mint,
-    ) -> Result<IoBuf<'static, O>, AllocError>
+    ) -> Result<IoBufOf<W, O>, AllocError>
         requires { head + length bytes.now + tail < 2 ^ 64 }
         ensures node { IfOk result (λ n. n ≡ between_rooms head tail bytes.now n.share) }
         ensures storage { IfOk result (λ n. IsNew mint.old mint.new own n.share) }
@@ -61,7 +58,7 @@ impl<O: Told> IoBuf<'static, O> {
         bytes: Vec<u8>,
         owner: O,
         mint: &mut Mint,
-    ) -> Result<IoBuf<'static, O>, (Vec<u8>, O)>
+    ) -> Result<IoBufOf<W, O>, (Vec<u8>, O)>
         ensures node { IfOk result (λ n. n ≡ whole_window bytes.items n.share) }
         ensures storage { IfOk result (λ n. IsNew mint.old mint.new (user owner) n.share) }
         ensures mint { MatchResult result (λ _. Adds 1 mint.old mint.new) (λ _. mint.new ≡ mint.old) }
@@ -82,7 +79,7 @@ impl<O: Told> IoBuf<'static, O> {
         bytes: Vec<u8>,
         tag: u32,
         mint: &mut Mint,
-    ) -> Result<IoBuf<'static, O>, Vec<u8>>
+    ) -> Result<IoBufOf<W, O>, Vec<u8>>
         ensures node { IfOk result (λ n. n ≡ whole_window bytes.items n.share) }
         ensures storage { IfOk result (λ n. IsNew mint.old mint.new (tagged tag) n.share) }
         ensures mint { MatchResult result (λ _. Adds 1 mint.old mint.new) (λ _. mint.new ≡ mint.old) }
@@ -103,7 +100,7 @@ impl<O: Told> IoBuf<'static, O> {
         block: Lent,
         used: usize,
         mint: &mut Mint,
-    ) -> Result<IoBuf<'static, O>, Lent>
+    ) -> Result<IoBufOf<W, O>, Lent>
         requires { used ≤ length block.bytes.items }
         ensures node { IfOk result (λ n. n ≡ cut block.bytes.items 0 used n.share) }
         ensures storage { IfOk result (λ n. IsNew mint.old mint.new (lent block.number) n.share) }
@@ -120,10 +117,10 @@ impl<O: Told> IoBuf<'static, O> {
 
 // A node on a managed hold.
 #[inline(always)]
-pub(crate) fn on<O: Told>(hold: Managed<O>, start: usize, len: usize) -> IoBuf<'static, O>
+pub(crate) fn on<W: Wrapped, O: Told>(hold: Managed<O>, start: usize, len: usize) -> IoBufOf<W, O>
     ensures { result ≡ cut hold.bytes start len hold.share }
 {
-    IoBuf {
+    IoBufOf {
         wrapped: None,
         window: Mine { hold, start, len },
     }

@@ -1,5 +1,5 @@
 //! Windows on blocks.
-ghost use Rattle.std.specs.Prelude.{◌≡◌, ◌+◌, ◌-◌, ◌≤◌, ◌<◌, ◌^◌, List, [], ◌∷◌, length};
+ghost use Rattle.std.specs.Prelude.{◌≡◌, ◌+◌, ◌-◌, ◌≤◌, ◌<◌, ◌^◌, List, [], ◌∷◌, length, take};
 ghost use Rattle.buffer_model.specs.Share.{IsAlone};
 ghost use Rattle.buffer_model.specs.Segment.{advanced, retreated, block_of};
 ghost use Rattle.buffer_model.specs.Stake.{held, KeepsTotals};
@@ -18,7 +18,7 @@ pub struct Mine<O: Told = NoOwner> {
 
 impl<O: Told> Mine<O> {
     ghost use Rattle.std.specs.Borrow.{sem};
-    ghost use Rattle.iobuf_node.specs.MineLends.{lends_window};
+    ghost use Rattle.iobuf_node.specs.MineLends.{lends_window, lends_tail};
 
     // How many bytes lie before the window.
     pub(crate) fn head(&self) -> usize
@@ -55,6 +55,22 @@ impl<O: Told> Mine<O> {
         self.start = start;
         self.len = len;
         self.hold.span_mut(start, start + len)
+    }
+
+    /// The first `n` bytes of the room after the data, for writing. Where as many bytes are written, they stand there,
+    /// and all else stays (`laws::writes_tail`). Takes no look. O(1), and no memory.
+    pub fn tail_mut(&mut self, n: usize) -> &mut [u8]
+        requires alone { IsAlone (seen self.old).share }
+        requires room { n ≤ length (seen self.old).after }
+        ensures* lends { sem 𝓛 (lends_tail O.row self.entry result) }
+        ensures value { result.now ≡ take n (seen self.old).after }
+    {
+        let start = self.head();
+        let len = self.length();
+        let _tail = self.tail();
+        self.start = start;
+        self.len = len;
+        self.hold.span_mut(start + len, start + len + n)
     }
 
     /// Copies the data `n` places on, and follows it. Takes no look. One overlapping copy in the block, O(data), and

@@ -7,6 +7,7 @@ ghost use Rattle.storage.specs.Back.{GivesBack, stakes_of};
 ghost use Rattle.storage.specs.Looks.{Stands, Claims, Bars};
 
 use crate::mine::Mine;
+use crate::wrapped::Wrapped;
 use share_count::Standing;
 use std::fmt;
 use std::marker::Model;
@@ -14,26 +15,27 @@ use storage::{Back, Barred, Managed, NoOwner, Receipt, Release, Told};
 
 /// A window on a block: some bytes, with the room before and after them. A drop gives the node's storage back: at the
 /// last an owner is told, but a lent block and a tag go nowhere, and the receipt is lost. Contracts see the three
-/// lists, and what the node has of the storage.
+/// lists, and what the node has of the storage. `W` are the bytes that the node may wrap: a borrowed slice, in `IoBuf`.
 #[derive(Drop)]
-pub struct IoBuf<'a, O: Told = NoOwner> {
-    pub(crate) wrapped: Option<&'a [u8]>,
+pub struct IoBufOf<W: Wrapped, O: Told> {
+    pub(crate) wrapped: Option<W>,
     pub(crate) window: Mine<O>,
 }
 
-impl<'a, O: Told> Model for IoBuf<'a, O> {
+/// A node that may wrap a borrowed slice.
+pub type IoBuf<'a, O = NoOwner> = IoBufOf<&'a [u8], O>;
+
+impl<W: Wrapped, O: Told> Model for IoBufOf<W, O> {
     ghost use Rattle.buffer_model.specs.Segment.{Segment};
 
     ghost Value = { Segment O };
 
     ghost use Rattle.iobuf_node.specs.Mine.{shown};
 
-    ghost view = { λ n. shown n.wrapped n.window };
+    ghost view = { λ n. shown W.bytes n.wrapped n.window };
 }
 
 impl<'a, O: Told> IoBuf<'a, O> {
-    ghost use Rattle.iobuf_node.specs.Mine.{size};
-
     /// A node on bytes that stay where they are, all of them data. O(1), and no memory.
     pub fn wrap(bytes: &'a [u8]) -> IoBuf<'a, O>
         ensures { result ≡ whole_window bytes.now wrapped }
@@ -48,14 +50,33 @@ impl<'a, O: Told> IoBuf<'a, O> {
             },
         }
     }
+}
+
+impl<W: Wrapped, O: Told> IoBufOf<W, O> {
+    ghost use Rattle.iobuf_node.specs.Mine.{size};
+
+    /// A node without bytes and without a storage. O(1), and no memory.
+    #[inline(always)]
+    pub fn empty() -> IoBufOf<W, O>
+        ensures { result ≡ whole_window [] wrapped }
+    {
+        IoBufOf {
+            wrapped: None,
+            window: Mine {
+                hold: Managed::none(),
+                start: 0,
+                len: 0,
+            },
+        }
+    }
 
     /// All bytes of the block: both rooms, with the data between them.
     #[inline(always)]
     pub fn block(&self) -> &[u8]
         ensures { result.now ≡ block_of self.now }
     {
-        match self.wrapped {
-            Some(bytes) => bytes,
+        match &self.wrapped {
+            Some(wrapped) => wrapped.as_bytes(),
             None => self.window.hold.bytes(),
         }
     }
@@ -188,14 +209,14 @@ impl<'a, O: Told> IoBuf<'a, O> {
     }
 }
 
-impl<'a, O: Told> IoBuf<'a, O> {
+impl<W: Wrapped, O: Told> IoBufOf<W, O> {
     ghost use Rattle.std.specs.Borrow.{sem};
     ghost use Rattle.iobuf_node.specs.Mine.{seen};
-    ghost use Rattle.iobuf_node.specs.NodeLends.{lends_mine, refused_by};
+    ghost use Rattle.iobuf_node.specs.NodeLends.{lends_mine, lends_alone, refused_by};
 
     /// Lends the window for writing, where a look finds that nobody else holds the node's storage. No memory.
     pub fn mine(&mut self) -> Result<&mut Mine<O>, Barred>
-        ensures* lends { sem 𝓛 (lends_mine O.row self.entry result) }
+        ensures* lends { sem 𝓛 (lends_mine W.row O.row W.Wrapped self.entry result) }
         ensures window { IfOk result (λ m. seen m.now ≡ shared_as (claimed self.old.share) self.old) }
         ensures alone { IfOk result (λ m. IsAlone (seen m.now).share) }
         ensures totals { IfOk result (λ m. KeepsTotals (held self.old.share ∷ []) (held (seen m.now).share ∷ [])) }
@@ -206,6 +227,15 @@ impl<'a, O: Told> IoBuf<'a, O> {
     {
         self.claim()?;
         Ok(&mut self.window)
+    }
+
+    /// Lends the window of a node that is alone for writing. Takes no look and no memory.
+    pub fn alone_mut(&mut self) -> &mut Mine<O>
+        requires { IsAlone self.old.share }
+        ensures* lends { sem 𝓛 (lends_alone W.row O.row W.Wrapped self.entry result) }
+        ensures window { seen result.now ≡ self.old }
+    {
+        &mut self.window
     }
 
     // Claims the storage for writing, by one look.
@@ -245,14 +275,14 @@ impl<'a, O: Told> IoBuf<'a, O> {
     }
 }
 
-impl<'a, O: Release> IoBuf<'a, O> {
+impl<W: Wrapped, O: Release> IoBufOf<W, O> {
     /// Gives the node's storage back, as a hold does. No memory.
     pub fn give_back(self) -> Back<O>
-        ensures back { GivesBack O.runs O.last (hold_of self.entry) result }
-        ensures nothing { (result ≡ Back.Nothing) ↔ (self.entry.share.number ≡ None) }
-        ensures totals { KeepsTotals (held self.entry.share ∷ []) (stakes_of result) }
+        ensures back { GivesBack O.runs O.last (hold_of self) result }
+        ensures nothing { (result ≡ Back.Nothing) ↔ (self.share.number ≡ None) }
+        ensures totals { KeepsTotals (held self.share ∷ []) (stakes_of result) }
     {
-        let IoBuf { wrapped, window } = self;
+        let IoBufOf { wrapped, window } = self;
         let Mine { hold, .. } = window;
         match wrapped {
             Some(_) => Back::Nothing,
@@ -261,8 +291,8 @@ impl<'a, O: Release> IoBuf<'a, O> {
     }
 }
 
-impl<'a, O: Told> fmt::Debug for IoBuf<'a, O> {
-    fn fmt<W: fmt::Write>(&self, f: &mut fmt::Formatter<W>) -> fmt::Result {
+impl<W: Wrapped, O: Told> fmt::Debug for IoBufOf<W, O> {
+    fn fmt<F: fmt::Write>(&self, f: &mut fmt::Formatter<F>) -> fmt::Result {
         write!(
             f,
             "IoBuf {{ number: {:?}, headroom: {}, length: {}, tailroom: {} }}",

@@ -10,13 +10,14 @@ ghost use Rattle.iobuf_node.specs.Answered.{answered, KeepsFor};
 ghost use Rattle.iobuf_node.specs.Roomed.{HasRoom, MakesRoom};
 
 use crate::make::{on, roomed};
-use crate::node::IoBuf;
+use crate::node::IoBufOf;
+use crate::wrapped::Wrapped;
 use share_count::{Mint, Standing};
 use std::alloc::{AllocError, Global};
 use std::mem;
 use storage::{Back, Release};
 
-impl<'a, O: Release> IoBuf<'a, O> {
+impl<W: Wrapped, O: Release> IoBufOf<W, O> {
     /// Makes both rooms at least this large. Where one isn't, the data is copied to a new storage with exactly these
     /// rooms, zero, and the old storage is given back. At most one copy of the data, with four allocations.
     pub fn reserve(
@@ -72,8 +73,8 @@ impl<'a, O: Release> IoBuf<'a, O> {
     }
 
     // Puts another node here, and gives this one back.
-    fn renew(&mut self, node: IoBuf<'static, O>) -> Back<O>
-        ensures window { self.new ≡ node.entry }
+    fn renew(&mut self, node: IoBufOf<W, O>) -> Back<O>
+        ensures window { self.new ≡ node }
         ensures back { GivesBack O.runs O.last (hold_of self.old) result }
         ensures totals { KeepsTotals (held self.old.share ∷ []) (stakes_of result) }
     {

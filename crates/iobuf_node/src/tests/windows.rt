@@ -1,3 +1,5 @@
+ghost use Rattle.buffer_model.specs.Share.{IsAlone};
+
 use crate::IoBuf;
 use crate::tests::fill;
 use relay_ports::Lent;
@@ -22,7 +24,9 @@ fn window(
     start: usize,
     end: usize,
     mint: &mut Mint,
-) -> IoBuf<'static> {
+) -> IoBuf<'static>
+    ensures { IsAlone result.share }
+{
     let bytes = Vec::from_slice(alloc, b"abcdef").expect(rt, "memory for bytes");
     let lent = IoBuf::from_lent(alloc, Lent { number: 0, bytes }, 6, mint);
     let mut node = lent.expect(rt, "memory for a node");
@@ -134,4 +138,21 @@ fn data_are_written(rt: HostRuntime) {
     assert!(rt; node.bytes() == b"zz".as_slice());
     take_rooms(&mut node);
     assert!(rt; node.bytes() == b"abzzef".as_slice());
+}
+
+// Writes `y` behind the data of a node that nobody else holds, and that has room there.
+fn write_behind(rt: &impl Abort, node: &mut IoBuf<'static>)
+    requires { IsAlone node.old.share }
+{
+    assert!(rt; node.tailroom() > 0);
+    node.alone_mut().tail_mut(1).fill(b'y');
+}
+
+#[test]
+fn the_room_behind_the_data_is_written(rt: HostRuntime) {
+    let mut node = window(&rt, rt.alloc(), 2, 4, &mut Mint::new());
+    write_behind(&rt, &mut node);
+    assert!(rt; node.bytes() == b"cd".as_slice());
+    take_rooms(&mut node);
+    assert!(rt; node.bytes() == b"abcdyf".as_slice());
 }
