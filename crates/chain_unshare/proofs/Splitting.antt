@@ -12,6 +12,8 @@ use Rattle.buffer_model.proofs.Minted.{adds_none, adds_at_most, same_on, adds_on
 use Rattle.buffer_model.proofs.Clones.{clone_keeps_totals}
 use Rattle.std.specs.List.{AllZip}
 use Rattle.iobuf_chain.specs.Accounts.{held_by, answered}
+use Rattle.iobuf_chain.specs.Cuts.{IsShortBeyond}
+use Rattle.iobuf_chain.specs.declared.fault.CutFault.{CutFault}
 use Rattle.iobuf_chain.specs.Shares.{IsEmptyChain, Regains, Rejoins}
 use Rattle.iobuf_chain.proofs.Lists.{drop_there, take-set, drop-set, set-set}
 use Rattle.iobuf_chain.proofs.Bytes.{bytes_of-append, sum_more, sum_within, sum-set, sum-cut}
@@ -26,6 +28,17 @@ pub nothing_left : {X : Type 0} (n : ℕ) (xs : List X) → length xs ≤ n → 
 nothing_left n [] h = drop-nil n
 nothing_left zero (x ∷ xs) h = absurd (omega arith)
 nothing_left (suc n) (x ∷ xs) h = nothing_left n xs (omega arith)
+
+abbrev is_ok : {X E : Type 0} → Result X E → Type 0
+is_ok (Ok x) = Unit {0}
+is_ok (Err e) = ⊥
+
+-- an answer is not `Short` where there is enough
+pub enough : {X : Type 0} (asked had : ℕ) (x : X) → asked ≤ had → IsShortBeyond asked had (Ok x)
+enough {X = X} asked had x h = record {
+  beyond = λ over. absurd (omega (arith, h, over));
+  within = λ _ a k e. let P : Result X CutFault → Type 0 = is_ok in subst P e tt;
+}
 
 module _ {O : Type 0} where
   pub run_stops : (n i : ℕ) (xs : List (Segment O)) (x : Segment O) → length (bytes_of (take i xs)) ≤ n → slice_get xs i ≡ Some x

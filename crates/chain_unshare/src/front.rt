@@ -10,8 +10,8 @@ ghost use Rattle.iobuf_chain.specs.Cuts.{IsShortBeyond};
 ghost use Rattle.iobuf_chain.specs.Shares.{Regains, IsEmptyChain};
 ghost use Rattle.chain_unshare.specs.Splits.{StopsAt, IsRun, SplitsBetween, SplitsNode, SplitsAt};
 
-use iobuf_chain::{Chain, CutFault, rejoin};
-use iobuf_node::IoBuf;
+use iobuf_chain::{ChainOf, CutFault, rejoin};
+use iobuf_node::{IoBufOf, Wrapped};
 use share_count::Mint;
 use std::alloc::{AllocError, Global};
 use std::mem;
@@ -22,12 +22,12 @@ use storage::Release;
 /// with its weight, stays behind. A side without a node gets one without data and room, on a new storage. `Short`
 /// exactly where there are fewer bytes, and then nothing changes. O(nodes in front), and a copy of one block where
 /// the node that is cut has the weight 1.
-pub fn split<'a, O: Release>(
-    c: &mut Chain<'a, O>,
+pub fn split<W: Wrapped, O: Release>(
+    c: &mut ChainOf<W, O>,
     alloc: Global,
     n: usize,
     mint: &mut Mint,
-) -> Result<Chain<'a, O>, CutFault>
+) -> Result<ChainOf<W, O>, CutFault>
     ensures short { IsShortBeyond n (length (bytes_of c.old)) result }
     ensures splits { IfOk result (λ front. SplitsAt n mint.old mint.new c.old front c.new) }
     ensures bytes { IfOk result (λ front. (bytes_of front ≡ take n (bytes_of c.old))
@@ -58,7 +58,7 @@ pub fn split<'a, O: Release>(
 }
 
 // How many first nodes have at most n bytes in all, and how many bytes are left for the next.
-fn run_of<'a, O: Release>(c: &Chain<'a, O>, n: usize) -> (usize, usize)
+fn run_of<W: Wrapped, O: Release>(c: &ChainOf<W, O>, n: usize) -> (usize, usize)
     ensures run { IsRun n c.now (take result.0 c.now) (drop result.0 c.now) }
     ensures left { result.1 ≡ n - length (bytes_of (take result.0 c.now)) }
     ensures within { result.0 ≤ length c.now }
@@ -76,12 +76,12 @@ fn run_of<'a, O: Release>(c: &Chain<'a, O>, n: usize) -> (usize, usize)
 }
 
 // The first i nodes leave. A side without a node gets an empty one.
-fn split_between<'a, O: Release>(
-    c: &mut Chain<'a, O>,
+fn split_between<W: Wrapped, O: Release>(
+    c: &mut ChainOf<W, O>,
     alloc: Global,
     i: usize,
     mint: &mut Mint,
-) -> Result<Chain<'a, O>, AllocError>
+) -> Result<ChainOf<W, O>, AllocError>
     requires some { 0 < length c.old }
     requires there { i ≤ length c.old }
     ensures parts { IfOk result (λ front. SplitsBetween mint.old mint.new (take i c.old) (drop i c.old) front c.new) }
@@ -101,25 +101,25 @@ fn split_between<'a, O: Release>(
 }
 
 // A chain of one node without data and room.
-fn empty<'a, O: Release>(alloc: Global, mint: &mut Mint) -> Result<Chain<'a, O>, AllocError>
+fn empty<W: Wrapped, O: Release>(
+    alloc: Global,
+    mint: &mut Mint,
+) -> Result<ChainOf<W, O>, AllocError>
     ensures chain { IfOk result (λ c. IsEmptyChain mint.old mint.new c) }
     ensures refused { OnErr result (mint.new ≡ mint.old) }
 {
-    let node = IoBuf::create(alloc, 0, mint)?;
-    match Chain::of(alloc, node) {
-        Ok(chain) => Ok(chain),
-        Err(_) => Err(AllocError),
-    }
+    let node = IoBufOf::create(alloc, 0, mint)?;
+    Ok(ChainOf::of(alloc, node))
 }
 
 // The first i nodes leave, with a clone of the next behind them that has its first k bytes.
-fn split_node<'a, O: Release>(
-    c: &mut Chain<'a, O>,
+fn split_node<W: Wrapped, O: Release>(
+    c: &mut ChainOf<W, O>,
     alloc: Global,
     i: usize,
     k: usize,
     mint: &mut Mint,
-) -> Result<Chain<'a, O>, AllocError>
+) -> Result<ChainOf<W, O>, AllocError>
     requires there { i < length c.old }
     requires within { StopsAt k (drop i c.old) }
     ensures parts { IfOk result (λ front. SplitsNode k mint.old mint.new (take i c.old) (drop i c.old) front c.new) }
@@ -137,13 +137,13 @@ fn split_node<'a, O: Release>(
 }
 
 // The same where nodes stand before it.
-fn split_later<'a, O: Release>(
-    c: &mut Chain<'a, O>,
+fn split_later<W: Wrapped, O: Release>(
+    c: &mut ChainOf<W, O>,
     alloc: Global,
     i: usize,
     k: usize,
     mint: &mut Mint,
-) -> Result<Chain<'a, O>, AllocError>
+) -> Result<ChainOf<W, O>, AllocError>
     requires there { i < length c.old }
     requires within { StopsAt k (drop i c.old) }
     ensures parts { IfOk result (λ front. SplitsNode k mint.old mint.new (take i c.old) (drop i c.old) front c.new) }
@@ -152,7 +152,7 @@ fn split_later<'a, O: Release>(
     ensures totals { KeepsTotalsBeside mint.old mint.new (held_by c.old) (held_by (c.new ++ answered result)) }
 {
     let _had = c.length();
-    let mut node = c.swap_node(i, IoBuf::wrap(&[]));
+    let mut node = c.swap_node(i, IoBufOf::empty());
     let Ok(mut clone) = node.clone_one(alloc, mint) else {
         let _ = c.swap_node(i, node);
         return Err(AllocError);

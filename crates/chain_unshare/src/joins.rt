@@ -10,9 +10,9 @@ ghost use Rattle.iobuf_chain.specs.Cuts.{IsShortBeyond};
 ghost use Rattle.chain_unshare.specs.Backs.{HandBack, returned};
 ghost use Rattle.chain_unshare.specs.Joins.{Joins, Folds, Gathers, IsFewest, span_of};
 
-use iobuf_chain::{Chain, CutFault};
-use iobuf_node::IoBuf;
+use iobuf_chain::{ChainOf, CutFault};
 use iobuf_node::laws::writes_window;
+use iobuf_node::{IoBufOf, Wrapped};
 use share_count::Mint;
 use std::alloc::{AllocError, Global};
 use std::mem;
@@ -22,8 +22,8 @@ use storage::{Release, Returns};
 /// and of the room after the last. The answer has what the old nodes handed back, in order. A chain of one node stays
 /// as it is. At want of memory nothing changes. One copy of each byte that stays, and one new storage; O(nodes)
 /// beside.
-pub fn coalesce<'a, O: Release>(
-    c: &mut Chain<'a, O>,
+pub fn coalesce<W: Wrapped, O: Release>(
+    c: &mut ChainOf<W, O>,
     alloc: Global,
     mint: &mut Mint,
 ) -> Result<Returns<O>, AllocError>
@@ -40,9 +40,7 @@ pub fn coalesce<'a, O: Release>(
         return Ok(Returns::new(alloc));
     }
     let node = join_first(c, count, alloc, mint)?;
-    let Ok(whole) = Chain::of(alloc, node) else {
-        unreachable!()
-    };
+    let whole = ChainOf::of(alloc, node);
     Ok(mem::replace(c, whole).give_back())
 }
 
@@ -50,8 +48,8 @@ pub fn coalesce<'a, O: Release>(
 /// `coalesce`, and the others stay. Nothing changes where the first node has them. `Short` exactly where the chain
 /// has fewer bytes; then, and at want of memory, nothing changes. O(nodes that become one), with one copy of each of
 /// their bytes that stays.
-pub fn gather<'a, O: Release>(
-    c: &mut Chain<'a, O>,
+pub fn gather<W: Wrapped, O: Release>(
+    c: &mut ChainOf<W, O>,
     alloc: Global,
     n: usize,
     mint: &mut Mint,
@@ -84,11 +82,11 @@ pub fn gather<'a, O: Release>(
 
 /// A node on a new storage with copies of what `coalesce` would leave, for a chain of one node too. The chain stays
 /// as it is. One copy of each byte, and four allocations.
-pub fn clone_coalesced<'a, O: Release>(
-    c: &Chain<'a, O>,
+pub fn clone_coalesced<W: Wrapped, O: Release>(
+    c: &ChainOf<W, O>,
     alloc: Global,
     mint: &mut Mint,
-) -> Result<IoBuf<'static, O>, AllocError>
+) -> Result<IoBufOf<W, O>, AllocError>
     ensures node { IfOk result (Joins mint.old mint.new c.now) }
     ensures refused { OnErr result (mint.new ≡ mint.old) }
     ensures totals { IfOk result (λ n. KeepsTotalsBeside mint.old mint.new [] (held n.share ∷ [])) }
@@ -97,7 +95,7 @@ pub fn clone_coalesced<'a, O: Release>(
 }
 
 // How many first nodes have n bytes: the fewest.
-fn fewest_with<'a, O: Release>(c: &Chain<'a, O>, n: usize) -> usize
+fn fewest_with<W: Wrapped, O: Release>(c: &ChainOf<W, O>, n: usize) -> usize
     requires some { 0 < n }
     requires there { n ≤ length (bytes_of c.now) }
     ensures fewest { IsFewest n c.now (take result c.now) (drop result c.now) }
@@ -116,8 +114,8 @@ fn fewest_with<'a, O: Release>(c: &Chain<'a, O>, n: usize) -> usize
 }
 
 // The first k nodes become one, and are given back.
-fn fold_front<'a, O: Release>(
-    c: &mut Chain<'a, O>,
+fn fold_front<W: Wrapped, O: Release>(
+    c: &mut ChainOf<W, O>,
     k: usize,
     alloc: Global,
     mint: &mut Mint,
@@ -132,7 +130,7 @@ fn fold_front<'a, O: Release>(
 {
     let _had = c.length();
     let node = join_first(c, k, alloc, mint)?;
-    let last = c.swap_node(k - 1, IoBuf::wrap(&[]));
+    let last = c.swap_node(k - 1, IoBufOf::empty());
     match c.cut_before(k - 1, last) {
         Ok(front) => {
             let _ = c.swap_node(0, node);
@@ -146,12 +144,12 @@ fn fold_front<'a, O: Release>(
 }
 
 // One node for the first k, on a new storage.
-fn join_first<'a, O: Release>(
-    c: &Chain<'a, O>,
+fn join_first<W: Wrapped, O: Release>(
+    c: &ChainOf<W, O>,
     k: usize,
     alloc: Global,
     mint: &mut Mint,
-) -> Result<IoBuf<'static, O>, AllocError>
+) -> Result<IoBufOf<W, O>, AllocError>
     requires some { 0 < k }
     requires there { k ≤ length c.now }
     ensures node { IfOk result (Joins mint.old mint.new (take k c.now)) }
@@ -165,7 +163,7 @@ fn join_first<'a, O: Release>(
     let Some(size) = end.checked_add(tail) else {
         return Err(AllocError);
     };
-    let mut node = IoBuf::create(alloc, size, mint)?;
+    let mut node = IoBufOf::create(alloc, size, mint)?;
     node.append(size);
     write_node(c, k, &mut node);
     node.trim_start(head);
@@ -174,7 +172,7 @@ fn join_first<'a, O: Release>(
 }
 
 // How many bytes of data the first k nodes have.
-fn length_of<'a, O: Release>(c: &Chain<'a, O>, k: usize) -> usize
+fn length_of<W: Wrapped, O: Release>(c: &ChainOf<W, O>, k: usize) -> usize
     requires { k ≤ length c.now }
     ensures { result ≡ length (bytes_of (take k c.now)) }
 {
@@ -187,7 +185,7 @@ fn length_of<'a, O: Release>(c: &Chain<'a, O>, k: usize) -> usize
 }
 
 // Writes the span of the first k nodes over a node's data.
-fn write_node<'a, O: Release>(c: &Chain<'a, O>, k: usize, node: &mut IoBuf<'static, O>)
+fn write_node<W: Wrapped, O: Release>(c: &ChainOf<W, O>, k: usize, node: &mut IoBufOf<W, O>)
     requires alone { IsAlone node.old.share }
     requires some { 0 < k }
     requires there { k ≤ length c.now }
@@ -203,7 +201,7 @@ fn write_node<'a, O: Release>(c: &Chain<'a, O>, k: usize, node: &mut IoBuf<'stat
 }
 
 // Writes the room before the first of the first k nodes, their data, and the room after the last.
-fn write_span<'a, O: Release>(c: &Chain<'a, O>, k: usize, block: &mut [u8])
+fn write_span<W: Wrapped, O: Release>(c: &ChainOf<W, O>, k: usize, block: &mut [u8])
     requires some { 0 < k }
     requires there { k ≤ length c.now }
     requires size { length block.old ≡ length (span_of (take k c.now)) }
@@ -216,7 +214,12 @@ fn write_span<'a, O: Release>(c: &Chain<'a, O>, k: usize, block: &mut [u8])
 }
 
 // Writes the data of the first k nodes at a place, and answers where it ends.
-fn write_data<'a, O: Release>(c: &Chain<'a, O>, k: usize, block: &mut [u8], at: usize) -> usize
+fn write_data<W: Wrapped, O: Release>(
+    c: &ChainOf<W, O>,
+    k: usize,
+    block: &mut [u8],
+    at: usize,
+) -> usize
     requires there { k ≤ length c.now }
     requires room { at + length (bytes_of (take k c.now)) ≤ length block.old }
     ensures end { result ≡ at + length (bytes_of (take k c.now)) }
@@ -240,14 +243,14 @@ fn write_at(block: &mut [u8], at: usize, bytes: &[u8])
 }
 
 // The bytes before a node's data.
-fn headroom_of<'n, 'a, O: Release>(node: &'n IoBuf<'a, O>) -> &'n [u8]
+fn headroom_of<'n, W: Wrapped, O: Release>(node: &'n IoBufOf<W, O>) -> &'n [u8]
     ensures { result.now ≡ node.now.before }
 {
     &node.block()[..node.headroom()]
 }
 
 // The bytes after a node's data.
-fn tailroom_of<'n, 'a, O: Release>(node: &'n IoBuf<'a, O>) -> &'n [u8]
+fn tailroom_of<'n, W: Wrapped, O: Release>(node: &'n IoBufOf<W, O>) -> &'n [u8]
     ensures { result.now ≡ node.now.after }
 {
     let block = node.block();

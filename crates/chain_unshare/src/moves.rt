@@ -11,8 +11,8 @@ ghost use Rattle.iobuf_chain.specs.Lists.{Each};
 ghost use Rattle.chain_unshare.specs.Backs.{HandBack, returned};
 ghost use Rattle.chain_unshare.specs.Unshares.{shared_in, replaced, CopiesEach, UnsharesEach};
 
-use iobuf_chain::Chain;
-use iobuf_node::IoBuf;
+use iobuf_chain::ChainOf;
+use iobuf_node::{IoBufOf, Wrapped};
 use share_count::Mint;
 use std::alloc::{AllocError, Global};
 use std::collections::VecDeque;
@@ -22,8 +22,8 @@ use storage::{Back, Release, Returns};
 /// storage back; the others stay as they are. Takes no look at a count. The answer has what the nodes that moved
 /// handed back, in order. All copies are made before the first node moves, so at want of memory the chain stays as it
 /// is. O(nodes), with one copy of each block that moves; no memory where all nodes are whole.
-pub fn unshare<'a, O: Release>(
-    c: &mut Chain<'a, O>,
+pub fn unshare<W: Wrapped, O: Release>(
+    c: &mut ChainOf<W, O>,
     alloc: Global,
     mint: &mut Mint,
 ) -> Result<Returns<O>, AllocError>
@@ -46,7 +46,7 @@ pub fn unshare<'a, O: Release>(
 }
 
 // How many nodes aren't whole.
-fn shared_count<'a, O: Release>(c: &Chain<'a, O>) -> usize
+fn shared_count<W: Wrapped, O: Release>(c: &ChainOf<W, O>) -> usize
     ensures { result ≡ length (shared_in c.now) }
 {
     let mut count = 0;
@@ -59,12 +59,12 @@ fn shared_count<'a, O: Release>(c: &Chain<'a, O>) -> usize
 }
 
 // Copies of the nodes that aren't whole, in order.
-fn copy_shared<'a, O: Release>(
-    c: &Chain<'a, O>,
+fn copy_shared<W: Wrapped, O: Release>(
+    c: &ChainOf<W, O>,
     alloc: Global,
     count: usize,
     mint: &mut Mint,
-) -> Result<VecDeque<IoBuf<'static, O>>, AllocError>
+) -> Result<VecDeque<IoBufOf<W, O>>, AllocError>
     requires { count ≡ length (shared_in c.now) }
     ensures copies { IfOk result (λ d. CopiesEach mint.old mint.new (shared_in c.now) d.items) }
     ensures mint { AddsAtMost (length (shared_in c.now)) mint.old mint.new }
@@ -80,9 +80,9 @@ fn copy_shared<'a, O: Release>(
 }
 
 // The copies take the places of the nodes that aren't whole, and those are given back, in order.
-fn move_in<'a, O: Release>(
-    c: &mut Chain<'a, O>,
-    copies: &mut VecDeque<IoBuf<'static, O>>,
+fn move_in<W: Wrapped, O: Release>(
+    c: &mut ChainOf<W, O>,
+    copies: &mut VecDeque<IoBufOf<W, O>>,
     backs: &mut VecDeque<Back<O>>,
 )
     requires none { backs.old.items ≡ [] }

@@ -53,7 +53,7 @@ fn chain_in(
         }
         node.trim_start(head);
         node.trim_end(tail);
-        let more = Chain::of(alloc, node).map_err(|_| Unexpected)?;
+        let more = Chain::of(alloc, node);
         chain = match chain {
             None => Some(more),
             Some(mut first) => {
@@ -146,10 +146,7 @@ fn shared_nodes_move(rt: HostRuntime) -> Result<(), Fail> {
     let mut other = chain_in(alloc, &[(b"xaby", 1, 1)], &mut mint)?;
     let mut chain = other.share_all(alloc, &mut mint).map_err(|_| Unexpected)?;
     join(&mut chain, chain_in(alloc, &[(b"cdz", 0, 1)], &mut mint)?)?;
-    join(
-        &mut chain,
-        Chain::of(alloc, IoBuf::wrap(b"ef")).map_err(|_| Unexpected)?,
-    )?;
+    join(&mut chain, Chain::of(alloc, IoBuf::wrap(b"ef")))?;
     join(&mut chain, chain_in(alloc, &[(b"", 0, 0)], &mut mint)?)?;
     assert!(rt; shows(&chain, &[b"ab", b"cd", b"ef", b""]));
     assert!(rt; chain.elements() == 4);
@@ -245,15 +242,9 @@ fn first_nodes_become_one(rt: HostRuntime) -> Result<(), Fail> {
 fn wrapped_nodes_become_one(rt: HostRuntime) -> Result<(), Fail> {
     let alloc = rt.alloc();
     let mut mint = Mint::new();
-    let mut chain: Chain<'_> = Chain::of(alloc, IoBuf::wrap(b"ab")).map_err(|_| Unexpected)?;
-    join(
-        &mut chain,
-        Chain::of(alloc, IoBuf::wrap(b"cd")).map_err(|_| Unexpected)?,
-    )?;
-    join(
-        &mut chain,
-        Chain::of(alloc, IoBuf::wrap(b"ef")).map_err(|_| Unexpected)?,
-    )?;
+    let mut chain: Chain<'_> = Chain::of(alloc, IoBuf::wrap(b"ab"));
+    join(&mut chain, Chain::of(alloc, IoBuf::wrap(b"cd")))?;
+    join(&mut chain, Chain::of(alloc, IoBuf::wrap(b"ef")))?;
     let mut backs = gather(&mut chain, alloc, 3, &mut mint).map_err(|_| Unexpected)?;
     assert!(rt; backs.len() == 2 && matches!(backs.pop(), Some(Back::Nothing)));
     assert!(rt; shows(&chain, &[b"abcd", b"ef"]));

@@ -5,9 +5,16 @@ pub mod TrimmedEnds
 pub mod GivenBack
 pub mod Rejoined
 pub mod Shared
+pub mod Sliced
 pub mod Copied
 pub mod Absorbed
 pub mod Moved
 pub mod Ranged
 pub mod FirstCuts
 pub mod Lasting
+pub mod Tailed
+pub mod ManyMinted
+pub mod ManyBack
+pub mod ManyTurns
+pub mod ManyShared
+pub mod ManyRegained

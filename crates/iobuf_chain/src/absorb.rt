@@ -6,12 +6,12 @@ ghost use Rattle.iobuf_chain.specs.Accounts.{held_by};
 ghost use Rattle.iobuf_chain.specs.Lists.{TurnsAt};
 ghost use Rattle.iobuf_chain.specs.Receipts.{absorbed, Absorbs, AgreesWith, IsFirstWith, LacksNumber, left_over};
 
-use crate::chain::Chain;
+use crate::chain::ChainOf;
 use crate::nodes::Nodes;
-use iobuf_node::IoBuf;
+use iobuf_node::{IoBufOf, Wrapped};
 use storage::{Receipt, Told};
 
-impl<'a, O: Told> Chain<'a, O> {
+impl<W: Wrapped, O: Told> ChainOf<W, O> {
     /// The first node with the receipt's storage number absorbs it. Where no node has that number, the receipt is
     /// handed back, and nothing changes. Numbers of one mint meet the condition (`laws::one_mint_agrees`). O(nodes),
     /// and no memory.
@@ -32,7 +32,10 @@ impl<'a, O: Told> Chain<'a, O> {
 }
 
 // The place of the first node with this storage number.
-pub(crate) fn first_with<'a, O: Told>(nodes: &Nodes<IoBuf<'a, O>>, number: u64) -> Option<usize>
+pub(crate) fn first_with<W: Wrapped, O: Told>(
+    nodes: &Nodes<IoBufOf<W, O>>,
+    number: u64,
+) -> Option<usize>
     ensures { MatchOption result (LacksNumber number nodes.now) (λ i. IsFirstWith number i nodes.now) }
 {
     'nodes: for i in 0..nodes.len() {
@@ -44,7 +47,7 @@ pub(crate) fn first_with<'a, O: Told>(nodes: &Nodes<IoBuf<'a, O>>, number: u64) 
 }
 
 // Whether a node has this storage number.
-fn has_number<'a, O: Told>(node: &IoBuf<'a, O>, number: u64) -> bool
+fn has_number<W: Wrapped, O: Told>(node: &IoBufOf<W, O>, number: u64) -> bool
     ensures { IsTrue result ↔ (node.now.share.number ≡ Some number) }
 {
     match node.number() {
@@ -54,13 +57,13 @@ fn has_number<'a, O: Told>(node: &IoBuf<'a, O>, number: u64) -> bool
 }
 
 // Node i absorbs a receipt of its storage.
-fn absorb_at<'a, O: Told>(nodes: &mut Nodes<IoBuf<'a, O>>, i: usize, receipt: Receipt<O>)
+fn absorb_at<W: Wrapped, O: Told>(nodes: &mut Nodes<IoBufOf<W, O>>, i: usize, receipt: Receipt<O>)
     requires there { i < length nodes.old }
     requires storage { IfSome (slice_get nodes.old i) (λ s. IsOfStorage s.share receipt) }
     ensures lasts { receipt.lasts ≡ 0 }
     ensures node { TurnsAt (absorbed receipt.weight) i nodes.old nodes.new }
 {
-    let mut node = nodes.swap(i, IoBuf::wrap(&[]));
+    let mut node = nodes.swap(i, IoBufOf::empty());
     node.absorb(receipt);
     let _ = nodes.swap(i, node);
 }

@@ -8,15 +8,19 @@ mod fault;
 mod joins;
 pub mod laws;
 mod managed;
+mod many;
 mod nodes;
 mod parts;
 mod range;
 mod settle;
 mod share;
+mod slices;
+mod tails;
 #[cfg(test)]
 mod tests;
 mod trims;
 
-pub use chain::{Chain, Frame};
+pub use chain::{Chain, ChainOf, Frame};
 pub use fault::CutFault;
 pub use settle::rejoin;
+pub use slices::Slices;

@@ -8,15 +8,15 @@ ghost use Rattle.iobuf_chain.specs.Accounts.{held_by};
 ghost use Rattle.iobuf_chain.specs.Lists.{Each};
 ghost use Rattle.iobuf_chain.specs.Managed.{either_way, ManagesEach, Copies, CopiesEach, PicksEach};
 
-use crate::chain::Chain;
+use crate::chain::{Chain, ChainOf};
 use crate::nodes::Nodes;
-use iobuf_node::IoBuf;
+use iobuf_node::{IoBuf, IoBufOf, Wrapped};
 use share_count::Mint;
 use std::alloc::{AllocError, Global};
 use std::collections::VecDeque;
 use storage::Told;
 
-impl<'a, O: Told> Chain<'a, O> {
+impl<W: Wrapped, O: Told> ChainOf<W, O> {
     /// A chain that borrows nothing: each wrapped node's whole block is copied to a new storage, rooms too; the
     /// others stay as they are. A chain of one node takes no memory but for that copy. At want of memory the chain is
     /// handed back as it was, though the mint may have gone on. O(nodes), and a copy of the wrapped blocks.
@@ -24,31 +24,31 @@ impl<'a, O: Told> Chain<'a, O> {
         self,
         alloc: Global,
         mint: &mut Mint,
-    ) -> Result<Chain<'static, O>, Chain<'a, O>>
-        ensures nodes { IfOk result (λ c. ManagesEach mint.old mint.new self.entry c) }
+    ) -> Result<Chain<'static, O>, ChainOf<W, O>>
+        ensures nodes { IfOk result (λ c. ManagesEach mint.old mint.new self c) }
         ensures managed { IfOk result (λ c. Each (λ s. IsManaged s.share) c) }
-        ensures bytes { IfOk result (λ c. bytes_of c ≡ bytes_of self.entry) }
-        ensures refused { IfErr result (λ c. c ≡ self.entry) }
-        ensures mint { AddsAtMost (length self.entry) mint.old mint.new }
-        ensures totals { KeepsTotalsBeside mint.old mint.new (held_by self.entry) (held_by (either_way result)) }
+        ensures bytes { IfOk result (λ c. bytes_of c ≡ bytes_of self) }
+        ensures refused { IfErr result (λ c. c ≡ self) }
+        ensures mint { AddsAtMost (length self) mint.old mint.new }
+        ensures totals { KeepsTotalsBeside mint.old mint.new (held_by self) (held_by (either_way result)) }
     {
-        let Chain { nodes, room, sum } = self;
+        let ChainOf { nodes, room, sum } = self;
         match manage_nodes(nodes, alloc, mint) {
-            Ok(nodes) => Ok(Chain { nodes, room, sum }),
-            Err(nodes) => Err(Chain { nodes, room, sum }),
+            Ok(nodes) => Ok(ChainOf { nodes, room, sum }),
+            Err(nodes) => Err(ChainOf { nodes, room, sum }),
         }
     }
 }
 
 // All nodes managed. First all copies are made, so that a refusal leaves the nodes as they are.
-fn manage_nodes<'a, O: Told>(
-    nodes: Nodes<IoBuf<'a, O>>,
+fn manage_nodes<W: Wrapped, O: Told>(
+    nodes: Nodes<IoBufOf<W, O>>,
     alloc: Global,
     mint: &mut Mint,
-) -> Result<Nodes<IoBuf<'static, O>>, Nodes<IoBuf<'a, O>>>
-    ensures nodes { IfOk result (λ c. ManagesEach mint.old mint.new nodes.entry c) }
-    ensures refused { IfErr result (λ c. c ≡ nodes.entry) }
-    ensures mint { AddsAtMost (length nodes.entry) mint.old mint.new }
+) -> Result<Nodes<IoBuf<'static, O>>, Nodes<IoBufOf<W, O>>>
+    ensures nodes { IfOk result (λ c. ManagesEach mint.old mint.new nodes c) }
+    ensures refused { IfErr result (λ c. c ≡ nodes) }
+    ensures mint { AddsAtMost (length nodes) mint.old mint.new }
 {
     let (first, rest) = nodes.into_parts();
     let Ok(copy) = copy_of(&first, alloc, mint) else {
@@ -63,8 +63,8 @@ fn manage_nodes<'a, O: Told>(
 }
 
 // A copy of a wrapped node. For a managed one an empty node stands.
-fn copy_of<'a, O: Told>(
-    node: &IoBuf<'a, O>,
+fn copy_of<W: Wrapped, O: Told>(
+    node: &IoBufOf<W, O>,
     alloc: Global,
     mint: &mut Mint,
 ) -> Result<IoBuf<'static, O>, AllocError>
@@ -72,7 +72,7 @@ fn copy_of<'a, O: Told>(
     ensures refused { OnErr result (mint.new ≡ mint.old) }
 {
     if node.number().is_some() {
-        return Ok(IoBuf::wrap(&[]));
+        return Ok(IoBufOf::empty());
     }
     match node.duplicate(alloc, mint) {
         Ok(copy) => Ok(copy),
@@ -81,8 +81,8 @@ fn copy_of<'a, O: Told>(
 }
 
 // The same for each node, in order.
-fn copies_of<'a, O: Told>(
-    nodes: &VecDeque<IoBuf<'a, O>>,
+fn copies_of<W: Wrapped, O: Told>(
+    nodes: &VecDeque<IoBufOf<W, O>>,
     alloc: Global,
     mint: &mut Mint,
 ) -> Result<VecDeque<IoBuf<'static, O>>, AllocError>
@@ -102,14 +102,14 @@ fn copies_of<'a, O: Told>(
 }
 
 // The node itself where it is managed, else its copy.
-fn pick<'a, O: Told>(
-    node: IoBuf<'a, O>,
+fn pick<W: Wrapped, O: Told>(
+    node: IoBufOf<W, O>,
     copy: IoBuf<'static, O>,
     alloc: Global,
     mint: &mut Mint,
 ) -> IoBuf<'static, O>
-    ensures stays { IsManaged node.entry.share → result ≡ node.entry }
-    ensures copy { node.entry.share.number ≡ None → result ≡ copy.entry }
+    ensures stays { IsManaged node.share → result ≡ node }
+    ensures copy { node.share.number ≡ None → result ≡ copy.entry }
     ensures mint { mint.new ≡ mint.old }
 {
     if node.number().is_none() {
@@ -122,14 +122,14 @@ fn pick<'a, O: Told>(
 }
 
 // The same for each node, in order, in the list of the copies.
-fn pick_each<'a, O: Told>(
-    nodes: VecDeque<IoBuf<'a, O>>,
+fn pick_each<W: Wrapped, O: Told>(
+    nodes: VecDeque<IoBufOf<W, O>>,
     copies: VecDeque<IoBuf<'static, O>>,
     alloc: Global,
     mint: &mut Mint,
 ) -> VecDeque<IoBuf<'static, O>>
     requires { length nodes.items ≡ length copies.items }
-    ensures picks { PicksEach nodes.entry.items copies.entry.items result.items }
+    ensures picks { PicksEach nodes.items copies.entry.items result.items }
     ensures mint { mint.new ≡ mint.old }
 {
     let mut nodes = nodes;

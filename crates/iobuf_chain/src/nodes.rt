@@ -1,12 +1,16 @@
 //! Lists of one or more items, of which the first lies in the list itself: a list of one owns no memory.
 ghost use Rattle.std.specs.Prelude.{◌≡◌, ◌+◌, ◌<◌, ◌≤◌, List, [], ◌∷◌, ◌++◌, Some, length, take, drop, slice_get, slice_set, ◌↔◌, IsNone, IfNone, IsOk, IfOk, OnOk, OnErr, MatchResult};
-ghost use Rattle.std.specs.VecDeque.{deque_len, deque_capacity};
+ghost use Rattle.std.specs.Borrow.{sem};
 ghost use Rattle.std.specs.Prelude.{IfSome};
+ghost use Rattle.std.specs.VecDeque.{deque_len, deque_capacity};
+ghost use Rattle.buffer_model.specs.Share.{IsAlone};
 ghost use Rattle.buffer_model.specs.Segment.{trimmed_start, trimmed_end};
 ghost use Rattle.iobuf_chain.specs.Lists.{between, without, rotated, inserted_after, TurnsAt};
 ghost use Rattle.iobuf_chain.specs.Shares.{ClonesAt, SharesFirst};
+ghost use Rattle.iobuf_chain.specs.TailLends.{lends_last, lends_node_tail};
+ghost use Rattle.iobuf_chain.specs.Tails.{last_of};
 
-use iobuf_node::IoBuf;
+use iobuf_node::{IoBufOf, Wrapped};
 use share_count::Mint;
 use std::alloc::{AllocError, Global};
 use std::collections::VecDeque;
@@ -68,6 +72,13 @@ impl<T: Drop> Nodes<T> {
         ensures some { 0 < result }
     {
         self.rest.len() + 1
+    }
+
+    // How many items there are beside the first.
+    fn more(&self) -> usize
+        ensures { result + 1 ≡ length self.now }
+    {
+        self.rest.len()
     }
 
     // Item i.
@@ -204,13 +215,13 @@ impl<T: Drop> Nodes<T> {
     }
 }
 
-impl<'a, O: Told> Nodes<IoBuf<'a, O>> {
+impl<W: Wrapped, O: Told> Nodes<IoBufOf<W, O>> {
     // A clone of the first node.
     pub(crate) fn clone_first(
         &mut self,
         alloc: Global,
         mint: &mut Mint,
-    ) -> Result<IoBuf<'a, O>, AllocError>
+    ) -> Result<IoBufOf<W, O>, AllocError>
         ensures shares { IfOk result (λ c. ClonesAt 0 mint.old mint.new self.old self.new c) }
         ensures refused { OnErr result ((self.new ≡ self.old) × (mint.new ≡ mint.old)) }
     {
@@ -222,13 +233,27 @@ impl<'a, O: Told> Nodes<IoBuf<'a, O>> {
 
     // A share of the first node, where it has the weight for one.
     #[inline(always)]
-    pub(crate) fn share_first(&mut self) -> Result<Option<IoBuf<'a, O>>, AllocError>
+    pub(crate) fn share_first(&mut self) -> Result<Option<IoBufOf<W, O>>, AllocError>
         ensures none { IfOk result (λ o. IsNone o ↔ IfSome (slice_get self.old 0) (λ s. s.share.weight < 2)) }
         ensures stays { IfOk result (λ o. IfNone o (self.new ≡ self.old)) }
         ensures share { IfOk result (λ o. IfSome o (SharesFirst self.old self.new)) }
         ensures refused { OnErr result (self.new ≡ self.old) }
     {
         self.first.share_one()
+    }
+
+    // The first n bytes of the room after the last node's data, for writing.
+    pub(crate) fn last_tail(&mut self, n: usize) -> &mut [u8]
+        requires alone { IfSome (last_of self.old) (λ s. IsAlone s.share) }
+        requires room { IfSome (last_of self.old) (λ s. n ≤ length s.after) }
+        ensures* lends { sem 𝓛 (lends_last W.row O.row W.Wrapped self.entry result) }
+        ensures value { IfSome (last_of self.old) (λ s. result.now ≡ take n s.after) }
+    {
+        let more = self.more();
+        if more == 0 {
+            return tail_of(&mut self.first, n);
+        }
+        tail_of(&mut self.rest[more - 1], n)
     }
 
     // The first k bytes of the first node leave.
@@ -247,6 +272,16 @@ impl<'a, O: Told> Nodes<IoBuf<'a, O>> {
     {
         self.first.trim_end(k);
     }
+}
+
+// The first n bytes of the room after a node's data, for writing.
+fn tail_of<W: Wrapped, O: Told>(node: &mut IoBufOf<W, O>, n: usize) -> &mut [u8]
+    requires alone { IsAlone node.old.share }
+    requires room { n ≤ length node.old.after }
+    ensures* lends { sem 𝓛 (lends_node_tail W.row O.row W.Wrapped node.entry result) }
+    ensures value { result.now ≡ take n node.old.after }
+{
+    node.alone_mut().tail_mut(n)
 }
 
 // A list's items come last in another that has room for them. O(items), and no memory.

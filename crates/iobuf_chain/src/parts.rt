@@ -6,18 +6,18 @@ ghost use Rattle.iobuf_chain.specs.Accounts.{held_by, answered, answered_if, cut
 ghost use Rattle.iobuf_chain.specs.Lists.{between, without};
 ghost use Rattle.iobuf_chain.specs.Shares.{CutsFirst, SharesFront};
 
-use crate::chain::Chain;
+use crate::chain::ChainOf;
 use crate::nodes::Nodes;
-use iobuf_node::IoBuf;
+use iobuf_node::{IoBufOf, Wrapped};
 use share_count::Mint;
 use std::alloc::{AllocError, Global};
 use std::collections::VecDeque;
 use storage::Told;
 
-impl<'a, O: Told> Chain<'a, O> {
+impl<W: Wrapped, O: Told> ChainOf<W, O> {
     /// Nodes `i` up to and without `j` leave, as a chain of their own. One node stays at least. O(nodes that leave,
     /// and of those before and those behind the fewer). One node takes no memory. At want of memory nothing changes.
-    pub fn separate(&mut self, i: usize, j: usize) -> Result<Chain<'a, O>, AllocError>
+    pub fn separate(&mut self, i: usize, j: usize) -> Result<ChainOf<W, O>, AllocError>
         requires some { i < j }
         requires there { j ≤ length self.old }
         requires stays { j < length self.old + i }
@@ -32,44 +32,52 @@ impl<'a, O: Told> Chain<'a, O> {
         let nodes = self.nodes.take_between(i, j)?;
         let sum = sum_of(&nodes);
         self.sum = all - sum;
-        Ok(Chain { nodes, room, sum })
+        Ok(ChainOf { nodes, room, sum })
     }
 
     /// Node `i` leaves, as a chain of its own. Another stays. O(nodes before it or behind it, of which there are
-    /// fewer), and no memory: so it always succeeds.
-    pub fn unlink(&mut self, i: usize) -> Result<Chain<'a, O>, AllocError>
+    /// fewer), and no memory.
+    pub fn unlink(&mut self, i: usize) -> ChainOf<W, O>
         requires there { i < length self.old }
         requires stays { 1 < length self.old }
-        ensures taken { IfOk result (λ c. c ≡ between i (i + 1) self.old) }
-        ensures left { OnOk result (self.new ≡ without i (i + 1) self.old) }
-        ensures always { IsOk result }
-        ensures totals { KeepsTotals (held_by self.old) (held_by (self.new ++ answered result)) }
+        ensures taken { result ≡ between i (i + 1) self.old }
+        ensures left { self.new ≡ without i (i + 1) self.old }
+        ensures totals { KeepsTotals (held_by self.old) (held_by (self.new ++ result)) }
     {
         let _most = self.nodes.len();
-        self.separate(i, i + 1)
+        match self.separate(i, i + 1) {
+            Ok(node) => node,
+            Err(_) => unreachable!(),
+        }
     }
 
-    /// The first node leaves, as a chain of its own. Another stays. O(1), and no memory: so it always succeeds.
-    pub fn pop(&mut self) -> Result<Chain<'a, O>, AllocError>
+    /// The first node leaves, as a chain of its own. Another stays. O(1), and no memory.
+    pub fn pop(&mut self) -> ChainOf<W, O>
         requires { 1 < length self.old }
-        ensures taken { IfOk result (λ c. c ≡ take 1 self.old) }
-        ensures left { OnOk result (self.new ≡ drop 1 self.old) }
-        ensures always { IsOk result }
-        ensures totals { KeepsTotals (held_by self.old) (held_by (self.new ++ answered result)) }
+        ensures taken { result ≡ take 1 self.old }
+        ensures left { self.new ≡ drop 1 self.old }
+        ensures totals { KeepsTotals (held_by self.old) (held_by (self.new ++ result)) }
     {
-        self.separate(0, 1)
+        match self.separate(0, 1) {
+            Ok(node) => node,
+            Err(_) => unreachable!(),
+        }
     }
 
     /// The nodes before node `i` leave, with another node behind them, as a chain of their own; node `i` and those
     /// behind it stay. O(nodes that leave). Where none leaves, it takes no memory. At want of memory the other is
     /// handed back, and nothing changes.
-    pub fn cut_before(&mut self, i: usize, last: IoBuf<'a, O>) -> Result<Chain<'a, O>, IoBuf<'a, O>>
+    pub fn cut_before(
+        &mut self,
+        i: usize,
+        last: IoBufOf<W, O>,
+    ) -> Result<ChainOf<W, O>, IoBufOf<W, O>>
         requires there { i < length self.old }
         requires sum { length (bytes_of (take i self.old)) + length last.window < 2 ^ 64 }
-        ensures front { MatchResult result (λ c. (c ≡ take i self.old ++ last.entry ∷ [])
-            × (self.new ≡ drop i self.old)) (λ n. (n ≡ last.entry) × (self.new ≡ self.old)) }
+        ensures front { MatchResult result (λ c. (c ≡ take i self.old ++ last ∷ [])
+            × (self.new ≡ drop i self.old)) (λ n. (n ≡ last) × (self.new ≡ self.old)) }
         ensures none { i ≡ 0 → IsOk result }
-        ensures totals { KeepsTotals (held_by (self.old ++ last.entry ∷ [])) (held_by (self.new ++ cut_off result)) }
+        ensures totals { KeepsTotals (held_by (self.old ++ last ∷ [])) (held_by (self.new ++ cut_off result)) }
     {
         let all = self.sum;
         let more = last.length();
@@ -79,11 +87,11 @@ impl<'a, O: Told> Chain<'a, O> {
         let nodes = self.nodes.take_front_with(i, last)?;
         let sum = sum_of(&nodes);
         self.sum = all - (sum - more);
-        Ok(Chain { nodes, room, sum })
+        Ok(ChainOf { nodes, room, sum })
     }
 }
 
-impl<'a, O: Told> Chain<'a, O> {
+impl<W: Wrapped, O: Told> ChainOf<W, O> {
     /// The first `k` bytes of the first node, which has more, leave in a clone of it, as a chain of their own. The
     /// node itself stays behind, without them. O(1). It takes no memory, and copies no byte, but at weight 1. At want
     /// of memory nothing changes.
@@ -92,7 +100,7 @@ impl<'a, O: Told> Chain<'a, O> {
         alloc: Global,
         k: usize,
         mint: &mut Mint,
-    ) -> Result<Chain<'a, O>, AllocError>
+    ) -> Result<ChainOf<W, O>, AllocError>
         requires { IfSome (slice_get self.old 0) (λ s. k < length s.window) }
         ensures cut { IfOk result (λ front. CutsFirst k mint.old mint.new self.old front self.new) }
         ensures refused { OnErr result ((self.new ≡ self.old) × (mint.new ≡ mint.old)) }
@@ -105,7 +113,7 @@ impl<'a, O: Told> Chain<'a, O> {
         clone.trim_end(len - k);
         self.nodes.trim_first_start(k);
         self.sum = all - k;
-        Ok(Chain {
+        Ok(ChainOf {
             nodes: Nodes::of(alloc, clone),
             room: VecDeque::new(alloc),
             sum: k,
@@ -113,7 +121,7 @@ impl<'a, O: Told> Chain<'a, O> {
     }
 }
 
-impl<'a, O: Told> Chain<'a, O> {
+impl<W: Wrapped, O: Told> ChainOf<W, O> {
     /// The first `k` bytes of the first node, which has more, leave in a share of it as a chain of their own, without
     /// their first `edges.0` and their last `edges.1`. The node itself stays behind with its other bytes. `None`
     /// exactly where the node has a weight below 2, as a wrapped one has: then nothing changes. O(1). It takes no
@@ -125,7 +133,7 @@ impl<'a, O: Told> Chain<'a, O> {
         alloc: Global,
         k: usize,
         edges: (usize, usize),
-    ) -> Result<Option<Chain<'a, O>>, AllocError>
+    ) -> Result<Option<ChainOf<W, O>>, AllocError>
         requires more { IfSome (slice_get self.old 0) (λ s. k < length s.window) }
         requires edges { edges.0 + edges.1 ≤ k }
         ensures none { IfOk result (λ o. IsNone o ↔ IfSome (slice_get self.old 0) (λ s. s.share.weight < 2)) }
@@ -145,7 +153,7 @@ impl<'a, O: Told> Chain<'a, O> {
         share.trim_start(front);
         self.nodes.trim_first_start(k);
         self.sum = all - k;
-        Ok(Some(Chain {
+        Ok(Some(ChainOf {
             nodes: Nodes::of(alloc, share),
             room: VecDeque::new(alloc),
             sum: k - back - front,
@@ -154,7 +162,7 @@ impl<'a, O: Told> Chain<'a, O> {
 }
 
 // How many bytes of data nodes have. O(nodes).
-pub(crate) fn sum_of<'a, O: Told>(nodes: &Nodes<IoBuf<'a, O>>) -> usize
+pub(crate) fn sum_of<W: Wrapped, O: Told>(nodes: &Nodes<IoBufOf<W, O>>) -> usize
     requires { length (bytes_of nodes.now) < 2 ^ 64 }
     ensures { result ≡ length (bytes_of nodes.now) }
 {

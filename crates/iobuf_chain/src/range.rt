@@ -10,17 +10,17 @@ ghost use Rattle.iobuf_chain.specs.Copies.{CopiesNoData, IsShareable, WithData};
 ghost use Rattle.iobuf_chain.specs.Cuts.{IsShortRange};
 ghost use Rattle.iobuf_chain.specs.Shares.{IsEmptyChain, IsReturnableAt, IsSharedSo, Regains, RegainsAll, RejoinsNext, SharesAt, SharesRange};
 
-use crate::chain::Chain;
+use crate::chain::ChainOf;
 use crate::fault::CutFault;
 use crate::nodes::Nodes;
 use crate::share::{rejoin_node, share_node};
-use iobuf_node::IoBuf;
+use iobuf_node::{IoBufOf, Wrapped};
 use share_count::Mint;
 use std::alloc::{AllocError, Global};
 use std::collections::VecDeque;
 use storage::{Back, Release};
 
-impl<'a, O: Release> Chain<'a, O> {
+impl<W: Wrapped, O: Release> ChainOf<W, O> {
     /// A second chain on `n` bytes from place `at`: of each node that has some of them a clone with a window on
     /// those, in order. No bytes are one node without data or room, on a new storage. A wrapped node and one of a
     /// weight over 1 share their bytes with their clones; a node of the weight 1 is copied. `Short` where `at` is
@@ -33,7 +33,7 @@ impl<'a, O: Release> Chain<'a, O> {
         at: usize,
         n: usize,
         mint: &mut Mint,
-    ) -> Result<Chain<'a, O>, CutFault>
+    ) -> Result<ChainOf<W, O>, CutFault>
         ensures short { IsShortRange at n (length (bytes_of self.old)) result }
         ensures unchanged { IfErr result (λ e. (e ≡ CutFault.NoMemory)
             ⊎ ((self.new ≡ self.old) × (mint.new ≡ mint.old))) }
@@ -77,7 +77,7 @@ impl<'a, O: Release> Chain<'a, O> {
         at: usize,
         n: usize,
         mint: &mut Mint,
-    ) -> Result<Chain<'a, O>, AllocError>
+    ) -> Result<ChainOf<W, O>, AllocError>
         requires some { 0 < n }
         requires there { at + n ≤ length (bytes_of self.old) }
         ensures shares { IfOk result (λ c. SharesRange at n mint.old mint.new self.old self.new c) }
@@ -85,7 +85,7 @@ impl<'a, O: Release> Chain<'a, O> {
         ensures mint { AddsAtMost (length self.old) mint.old mint.new }
     {
         match share_bytes(&mut self.nodes, at, n, alloc, mint) {
-            Ok((nodes, room)) => Ok(Chain {
+            Ok((nodes, room)) => Ok(ChainOf {
                 nodes,
                 room,
                 sum: n,
@@ -96,28 +96,27 @@ impl<'a, O: Release> Chain<'a, O> {
 }
 
 // A chain of one node without data and room.
-fn empty<'a, O: Release>(alloc: Global, mint: &mut Mint) -> Result<Chain<'a, O>, AllocError>
+fn empty<W: Wrapped, O: Release>(
+    alloc: Global,
+    mint: &mut Mint,
+) -> Result<ChainOf<W, O>, AllocError>
     ensures chain { IfOk result (λ c. IsEmptyChain mint.old mint.new c) }
     ensures refused { OnErr result (mint.new ≡ mint.old) }
 {
-    let node = match IoBuf::create(alloc, 0, mint) {
-        Ok(node) => node,
-        Err(e) => return Err(e),
-    };
-    match Chain::of(alloc, node) {
-        Ok(chain) => Ok(chain),
-        Err(_) => Err(AllocError),
+    match IoBufOf::create(alloc, 0, mint) {
+        Ok(node) => Ok(ChainOf::of(alloc, node)),
+        Err(e) => Err(e),
     }
 }
 
 // Shares of n bytes from place `at`, with room for what all but the first hand back.
-fn share_bytes<'a, O: Release>(
-    nodes: &mut Nodes<IoBuf<'a, O>>,
+fn share_bytes<W: Wrapped, O: Release>(
+    nodes: &mut Nodes<IoBufOf<W, O>>,
     at: usize,
     n: usize,
     alloc: Global,
     mint: &mut Mint,
-) -> Result<(Nodes<IoBuf<'a, O>>, VecDeque<Back<O>>), AllocError>
+) -> Result<(Nodes<IoBufOf<W, O>>, VecDeque<Back<O>>), AllocError>
     requires some { 0 < n }
     requires there { at + n ≤ length (bytes_of nodes.old) }
     ensures shares { IfOk result (λ made. SharesRange at n mint.old mint.new nodes.old nodes.new made.0) }
@@ -140,9 +139,9 @@ fn share_bytes<'a, O: Release>(
 }
 
 // The shares, and room for what they hand back. At want of memory the shares so far stand.
-fn share_with_room<'a, O: Release>(
-    nodes: &mut Nodes<IoBuf<'a, O>>,
-    shares: &mut VecDeque<IoBuf<'a, O>>,
+fn share_with_room<W: Wrapped, O: Release>(
+    nodes: &mut Nodes<IoBufOf<W, O>>,
+    shares: &mut VecDeque<IoBufOf<W, O>>,
     at: usize,
     n: usize,
     alloc: Global,
@@ -162,9 +161,9 @@ fn share_with_room<'a, O: Release>(
 }
 
 // Shares the nodes in turn, up to the last byte, or to the first that is refused.
-fn share_parts<'a, O: Release>(
-    nodes: &mut Nodes<IoBuf<'a, O>>,
-    shares: &mut VecDeque<IoBuf<'a, O>>,
+fn share_parts<W: Wrapped, O: Release>(
+    nodes: &mut Nodes<IoBufOf<W, O>>,
+    shares: &mut VecDeque<IoBufOf<W, O>>,
     at: usize,
     n: usize,
     alloc: Global,
@@ -196,10 +195,10 @@ fn share_parts<'a, O: Release>(
 }
 
 // Shares of node i what it has of some bytes.
-fn share_part<'a, O: Release>(
-    nodes: &mut Nodes<IoBuf<'a, O>>,
+fn share_part<W: Wrapped, O: Release>(
+    nodes: &mut Nodes<IoBufOf<W, O>>,
     i: usize,
-    shares: &mut VecDeque<IoBuf<'a, O>>,
+    shares: &mut VecDeque<IoBufOf<W, O>>,
     at: usize,
     n: usize,
     alloc: Global,
@@ -230,9 +229,9 @@ fn share_part<'a, O: Release>(
 }
 
 // Gives shares of n bytes from place `at` back, each to its node.
-fn rejoin_parts<'a, O: Release>(
-    nodes: &mut Nodes<IoBuf<'a, O>>,
-    shares: &mut VecDeque<IoBuf<'a, O>>,
+fn rejoin_parts<W: Wrapped, O: Release>(
+    nodes: &mut Nodes<IoBufOf<W, O>>,
+    shares: &mut VecDeque<IoBufOf<W, O>>,
     at: usize,
     n: usize,
 )
@@ -251,10 +250,10 @@ fn rejoin_parts<'a, O: Release>(
 }
 
 // Gives the next share back to node i, where that has some of the bytes.
-fn rejoin_part<'a, O: Release>(
-    nodes: &mut Nodes<IoBuf<'a, O>>,
+fn rejoin_part<W: Wrapped, O: Release>(
+    nodes: &mut Nodes<IoBufOf<W, O>>,
     i: usize,
-    shares: &mut VecDeque<IoBuf<'a, O>>,
+    shares: &mut VecDeque<IoBufOf<W, O>>,
     at: usize,
     n: usize,
 )

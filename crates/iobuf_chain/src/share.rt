@@ -7,23 +7,25 @@ ghost use Rattle.buffer_model.specs.Minted.{AddsAtMost};
 ghost use Rattle.buffer_model.specs.Stake.{KeepsTotalsBeside};
 ghost use Rattle.iobuf_chain.specs.Accounts.{held_by, answered};
 ghost use Rattle.iobuf_chain.specs.Copies.{CopiesNoData, HasWeight, IsShareable, WithData};
+ghost use Rattle.iobuf_chain.specs.Lists.{Each};
+ghost use Rattle.iobuf_chain.specs.Many.{Lasts};
 ghost use Rattle.iobuf_chain.specs.Shares.{AreReturnable, ClonesAt, ClonesEach, ClonesFirst, IsReturnable, Regains, RejoinsAt, RejoinsEach};
 
-use crate::chain::Chain;
+use crate::chain::ChainOf;
 use crate::nodes::Nodes;
 use crate::settle::rejoin;
-use iobuf_node::IoBuf;
+use iobuf_node::{IoBufOf, Wrapped};
 use share_count::Mint;
 use std::alloc::{AllocError, Global};
 use std::collections::VecDeque;
 use storage::Release;
 
-impl<'a, O: Release> Chain<'a, O> {
+impl<W: Wrapped, O: Release> ChainOf<W, O> {
     /// A second chain with a clone of each node, in order. A wrapped node and one of a weight over 1 share their
     /// bytes with their clones; a node of the weight 1 is copied. A chain of one node takes no memory but for that
     /// clone. At want of memory the shares that were made are given back and absorbed. O(nodes). A node that can be
     /// shared `k + 2` times without a copy, for `k` up to 1,024, can be shared `k + 1` times afterwards (`left`).
-    pub fn share_all(&mut self, alloc: Global, mint: &mut Mint) -> Result<Chain<'a, O>, AllocError>
+    pub fn share_all(&mut self, alloc: Global, mint: &mut Mint) -> Result<ChainOf<W, O>, AllocError>
         ensures shares { IfOk result (λ c. ClonesEach mint.old mint.new self.old self.new c) }
         ensures bytes { IfOk result (λ c. bytes_of c ≡ bytes_of self.old) }
         ensures kept { bytes_of self.new ≡ bytes_of self.old }
@@ -31,6 +33,7 @@ impl<'a, O: Release> Chain<'a, O> {
             → OnOk result (WithData (HasWeight (k + 1)) self.new) }
         ensures refused { OnErr result (AllZip Regains self.old self.new) }
         ensures mint { AddsAtMost (length self.old) mint.old mint.new }
+        ensures numbers { Each (Lasts 1) self.old → mint.new ≡ mint.old }
         ensures totals { KeepsTotalsBeside mint.old mint.new (held_by self.old)
             (held_by (self.new ++ answered result)) }
         ensures copies { WithData IsShareable self.old → IfOk result (CopiesNoData self.old) }
@@ -44,19 +47,20 @@ impl<'a, O: Release> Chain<'a, O> {
             Ok(nodes) => nodes,
             Err(e) => return Err(e),
         };
-        Ok(Chain { nodes, room, sum })
+        Ok(ChainOf { nodes, room, sum })
     }
 }
 
 // A clone of each node. Of one node it takes no memory but for that clone.
-fn share_nodes<'a, O: Release>(
-    nodes: &mut Nodes<IoBuf<'a, O>>,
+fn share_nodes<W: Wrapped, O: Release>(
+    nodes: &mut Nodes<IoBufOf<W, O>>,
     alloc: Global,
     mint: &mut Mint,
-) -> Result<Nodes<IoBuf<'a, O>>, AllocError>
+) -> Result<Nodes<IoBufOf<W, O>>, AllocError>
     ensures shares { IfOk result (λ c. ClonesEach mint.old mint.new nodes.old nodes.new c) }
     ensures refused { OnErr result (AllZip Regains nodes.old nodes.new) }
     ensures mint { AddsAtMost (length nodes.old) mint.old mint.new }
+    ensures numbers { Each (Lasts 1) nodes.old → mint.new ≡ mint.old }
 {
     let count = nodes.len();
     if count == 1 {
@@ -82,12 +86,12 @@ fn share_nodes<'a, O: Release>(
 }
 
 // A clone of node i.
-pub(crate) fn share_node<'a, O: Release>(
-    nodes: &mut Nodes<IoBuf<'a, O>>,
+pub(crate) fn share_node<W: Wrapped, O: Release>(
+    nodes: &mut Nodes<IoBufOf<W, O>>,
     i: usize,
     alloc: Global,
     mint: &mut Mint,
-) -> Result<IoBuf<'a, O>, AllocError>
+) -> Result<IoBufOf<W, O>, AllocError>
     requires { i < length nodes.old }
     ensures shares { IfOk result (λ c. ClonesAt i mint.old mint.new nodes.old nodes.new c) }
     ensures refused { OnErr result ((nodes.new ≡ nodes.old) × (mint.new ≡ mint.old)) }
@@ -95,7 +99,7 @@ pub(crate) fn share_node<'a, O: Release>(
     if i == 0 {
         return nodes.clone_first(alloc, mint);
     }
-    let mut node = nodes.swap(i, IoBuf::wrap(&[]));
+    let mut node = nodes.swap(i, IoBufOf::empty());
     let clone = node.clone_one(alloc, mint);
     let _ = nodes.swap(i, node);
     match clone {
@@ -105,9 +109,9 @@ pub(crate) fn share_node<'a, O: Release>(
 }
 
 // Clones of all nodes, in order, up to the first that is refused.
-fn share_each<'a, O: Release>(
-    nodes: &mut Nodes<IoBuf<'a, O>>,
-    clones: &mut VecDeque<IoBuf<'a, O>>,
+fn share_each<W: Wrapped, O: Release>(
+    nodes: &mut Nodes<IoBufOf<W, O>>,
+    clones: &mut VecDeque<IoBufOf<W, O>>,
     alloc: Global,
     mint: &mut Mint,
 ) -> Result<(), AllocError>
@@ -126,7 +130,10 @@ fn share_each<'a, O: Release>(
 }
 
 // Gives clones back, each to its node.
-fn rejoin_each<'a, O: Release>(nodes: &mut Nodes<IoBuf<'a, O>>, clones: &mut VecDeque<IoBuf<'a, O>>)
+fn rejoin_each<W: Wrapped, O: Release>(
+    nodes: &mut Nodes<IoBufOf<W, O>>,
+    clones: &mut VecDeque<IoBufOf<W, O>>,
+)
     requires { AreReturnable nodes.old clones.old.items }
     ensures { RejoinsEach nodes.old clones.old.items nodes.new }
 {
@@ -139,16 +146,16 @@ fn rejoin_each<'a, O: Release>(nodes: &mut Nodes<IoBuf<'a, O>>, clones: &mut Vec
 }
 
 // Gives a clone back to node i.
-pub(crate) fn rejoin_node<'a, O: Release>(
-    nodes: &mut Nodes<IoBuf<'a, O>>,
+pub(crate) fn rejoin_node<W: Wrapped, O: Release>(
+    nodes: &mut Nodes<IoBufOf<W, O>>,
     i: usize,
-    share: IoBuf<'a, O>,
+    share: IoBufOf<W, O>,
 )
     requires there { i < length nodes.old }
     requires returnable { IfSome (slice_get nodes.old i) (λ n. IsReturnable n.share share.share) }
-    ensures { RejoinsAt i nodes.old share.entry.share nodes.new }
+    ensures { RejoinsAt i nodes.old share.share nodes.new }
 {
-    let mut node = nodes.swap(i, IoBuf::wrap(&[]));
+    let mut node = nodes.swap(i, IoBufOf::empty());
     rejoin(&mut node, share);
     let _ = nodes.swap(i, node);
 }

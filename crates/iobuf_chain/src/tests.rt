@@ -2,9 +2,14 @@ mod drops;
 mod ends;
 mod example;
 mod fronts;
+mod lends;
+mod many;
 mod moves;
 mod ranges;
 mod receipts;
+mod slices;
+
+ghost use Rattle.buffer_model.specs.Share.{IsAlone};
 
 use crate::Chain;
 use iobuf_node::IoBuf;
@@ -20,7 +25,9 @@ fn copied(
     bytes: &[u8],
     rooms: (usize, usize),
     mint: &mut Mint,
-) -> IoBuf<'static> {
+) -> IoBuf<'static>
+    ensures { IsAlone result.share }
+{
     let (head, tail) = rooms;
     assert!(rt; bytes.len() <= 100 && head <= 100 && tail <= 100);
     IoBuf::copy(alloc, bytes, head, tail, mint).expect(rt, "memory for a node")
@@ -41,7 +48,7 @@ fn node(rt: &impl Abort, alloc: Global, text: &'static str, mint: &mut Mint) -> 
 // A chain of one node.
 fn one(rt: &impl Abort, alloc: Global, text: &'static str, mint: &mut Mint) -> Chain<'static> {
     let node = node(rt, alloc, text, mint);
-    Chain::of(alloc, node).expect(rt, "a chain")
+    Chain::of(alloc, node)
 }
 
 // The second behind the first.

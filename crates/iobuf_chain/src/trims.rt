@@ -6,12 +6,12 @@ ghost use Rattle.iobuf_chain.specs.Accounts.{held_by};
 ghost use Rattle.iobuf_chain.specs.Lists.{TurnsAt};
 ghost use Rattle.iobuf_chain.specs.Trims.{trimmed_front, trimmed_back};
 
-use crate::chain::Chain;
+use crate::chain::ChainOf;
 use crate::nodes::Nodes;
-use iobuf_node::IoBuf;
+use iobuf_node::{IoBufOf, Wrapped};
 use storage::Told;
 
-impl<'a, O: Told> Chain<'a, O> {
+impl<W: Wrapped, O: Told> ChainOf<W, O> {
     /// The first `n` bytes leave their windows, to the room before them. The nodes stay, without data too. O(nodes
     /// that lose bytes), and no memory.
     pub fn trim_start(&mut self, n: usize)
@@ -38,7 +38,7 @@ impl<'a, O: Told> Chain<'a, O> {
 }
 
 // The first n bytes leave.
-fn trim_front<'a, O: Told>(nodes: &mut Nodes<IoBuf<'a, O>>, n: usize)
+fn trim_front<W: Wrapped, O: Told>(nodes: &mut Nodes<IoBufOf<W, O>>, n: usize)
     requires { n ≤ length (bytes_of nodes.old) }
     ensures { nodes.new ≡ trimmed_front n nodes.old }
 {
@@ -55,7 +55,7 @@ fn trim_front<'a, O: Told>(nodes: &mut Nodes<IoBuf<'a, O>>, n: usize)
 }
 
 // The last n bytes leave.
-fn trim_back<'a, O: Told>(nodes: &mut Nodes<IoBuf<'a, O>>, n: usize)
+fn trim_back<W: Wrapped, O: Told>(nodes: &mut Nodes<IoBufOf<W, O>>, n: usize)
     requires { n ≤ length (bytes_of nodes.old) }
     ensures { nodes.new ≡ trimmed_back n nodes.old }
 {
@@ -70,7 +70,7 @@ fn trim_back<'a, O: Told>(nodes: &mut Nodes<IoBuf<'a, O>>, n: usize)
 }
 
 // The first k bytes of node i leave.
-fn trim_node_start<'a, O: Told>(nodes: &mut Nodes<IoBuf<'a, O>>, i: usize, k: usize)
+fn trim_node_start<W: Wrapped, O: Told>(nodes: &mut Nodes<IoBufOf<W, O>>, i: usize, k: usize)
     requires room { IfSome (slice_get nodes.old i) (λ s. k ≤ length s.window) }
     requires there { i < length nodes.old }
     ensures { TurnsAt (trimmed_start k) i nodes.old nodes.new }
@@ -79,13 +79,13 @@ fn trim_node_start<'a, O: Told>(nodes: &mut Nodes<IoBuf<'a, O>>, i: usize, k: us
         nodes.trim_first_start(k);
         return;
     }
-    let mut node = nodes.swap(i, IoBuf::wrap(&[]));
+    let mut node = nodes.swap(i, IoBufOf::empty());
     node.trim_start(k);
     let _ = nodes.swap(i, node);
 }
 
 // The last k bytes of node i leave.
-fn trim_node_end<'a, O: Told>(nodes: &mut Nodes<IoBuf<'a, O>>, i: usize, k: usize)
+fn trim_node_end<W: Wrapped, O: Told>(nodes: &mut Nodes<IoBufOf<W, O>>, i: usize, k: usize)
     requires room { IfSome (slice_get nodes.old i) (λ s. k ≤ length s.window) }
     requires there { i < length nodes.old }
     ensures { TurnsAt (trimmed_end k) i nodes.old nodes.new }
@@ -94,7 +94,7 @@ fn trim_node_end<'a, O: Told>(nodes: &mut Nodes<IoBuf<'a, O>>, i: usize, k: usiz
         nodes.trim_first_end(k);
         return;
     }
-    let mut node = nodes.swap(i, IoBuf::wrap(&[]));
+    let mut node = nodes.swap(i, IoBufOf::empty());
     node.trim_end(k);
     let _ = nodes.swap(i, node);
 }

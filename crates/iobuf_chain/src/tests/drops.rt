@@ -47,7 +47,7 @@ fn counted(
     let bytes = Vec::from_slice(alloc, b"ab").expect(rt, "memory for bytes");
     let node = IoBuf::take_ownership(alloc, bytes, owner, mint).ok();
     let node = node.expect(rt, "memory for a node");
-    Chain::of(alloc, node).ok().expect(rt, "a chain")
+    Chain::of(alloc, node)
 }
 
 #[test]

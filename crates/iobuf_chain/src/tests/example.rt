@@ -9,10 +9,10 @@ use std::process::Abort;
 // A chain of three nodes.
 fn three(rt: &impl Abort, alloc: Global, mint: &mut Mint) -> Chain<'static> {
     let head = IoBuf::copy(alloc, b"head ", 0, 0, mint).expect(rt, "memory for a node");
-    let mut chain = Chain::of(alloc, head).expect(rt, "a chain");
-    let body = Chain::of(alloc, IoBuf::wrap(b"body")).expect(rt, "a chain");
+    let mut chain = Chain::of(alloc, head);
+    let body = Chain::of(alloc, IoBuf::wrap(b"body"));
     join(rt, &mut chain, body);
-    let end = Chain::of(alloc, IoBuf::wrap(b" end")).expect(rt, "a chain");
+    let end = Chain::of(alloc, IoBuf::wrap(b" end"));
     join(rt, &mut chain, end);
     chain
 }
@@ -28,7 +28,7 @@ fn put_last_behind_first(rt: &impl Abort, chain: &mut Chain<'static>) {
 // The second of three nodes becomes the last.
 fn put_second_last(rt: &impl Abort, chain: &mut Chain<'static>) {
     assert!(rt; chain.elements() == 3);
-    let second = chain.unlink(1).expect(rt, "the second node");
+    let second = chain.unlink(1);
     join(rt, chain, second);
 }
 
@@ -40,7 +40,7 @@ fn a_chain_is_taken_apart(rt: HostRuntime) {
     assert!(rt; shows(&chain, "head | end|body"));
     put_second_last(&rt, &mut chain);
     assert!(rt; shows(&chain, "head |body| end") && chain.elements() == 3);
-    let first = chain.pop().expect(&rt, "the first node");
+    let first = chain.pop();
     assert!(rt; shows(&first, "head ") && shows(&chain, "body| end"));
 }
 

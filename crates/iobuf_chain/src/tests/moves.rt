@@ -116,7 +116,6 @@ fn unlinks(
     let mut chain = chain_of(rt, alloc, nodes, &mut Mint::new());
     assert!(rt; i < chain.elements() && chain.elements() > 1);
     let away = if i == 0 { chain.pop() } else { chain.unlink(i) };
-    let away = away.expect(rt, "a node");
     shows(&chain, left) && shows(&away, one)
 }
 

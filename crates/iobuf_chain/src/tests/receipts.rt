@@ -23,9 +23,7 @@ fn lender<O: Release>(
     let Some(receipt) = clone.give_back().receipt() else {
         return Ok(None);
     };
-    let Ok(mut chain) = Chain::of(alloc, node) else {
-        return Ok(None);
-    };
+    let mut chain = Chain::of(alloc, node);
     match chain.absorb(receipt) {
         Ok(()) => Ok(Some(chain)),
         Err(_) => Ok(None),

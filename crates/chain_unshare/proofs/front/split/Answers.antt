@@ -1,6 +1,6 @@
-use Rattle.std.proofs.Common.{refl}
+use Rattle.std.proofs.Common.{refl, arith}
 use Rattle.iobuf_chain.proofs.Rejoined.{regains_each}
-use Rattle.chain_unshare.proofs.Splitting.{splits_bytes, splits_heavy, splits_copy_nothing, at_node, at_between}
+use Rattle.chain_unshare.proofs.Splitting.{enough, splits_bytes, splits_heavy, splits_copy_nothing, at_node, at_between}
 use Rattle.chain_unshare.proofs.front.split.Goals as goal
 
 pub returns-then-had-n-clause-refused : goal.returns-then-had-n-clause-refused
@@ -38,3 +38,6 @@ pub returns-in-Ok-split_between-clause-copies : goal.returns-in-Ok-split_between
 returns-in-Ok-split_between-clause-copies g c =
     splits_copy_nothing c.args.n _ _ _ _ _
     (at_between c.args.n c.run_of-i.result.0 _ _ _ _ _ _ c.run_of-i.ensures.run c.run_of-i.ensures.left c.if-left-gt0.false c.in-Ok-split_between.ensures.parts)
+
+pub returns-in-Ok-clause-short : goal.returns-in-Ok-clause-short
+returns-in-Ok-clause-short g c = enough _ _ _ (omega (arith, c.if-had-n.false, c.length-had.ensures))

@@ -9,5 +9,5 @@ returns-clause-totals g c =
     record {
       node = c.in_ok-node.node;
       joins = joins_all _ _ c.elements-count.result c.args.c.now c.in_ok-node.node (omega arith) c.in_ok-node.ensures.node;
-      after_is = let whole : c.in-Ok.whole ≡ c.in_ok-node.node ∷ [] = cc (c.in-Ok.ensures) in c.replace.ensures.after ∙ whole;
+      after_is = c.replace.ensures.after ∙ c.of-whole.ensures;
     } (totals_of _ _ c.give_back.result c.replace.ensures.value c.give_back.ensures.totals)

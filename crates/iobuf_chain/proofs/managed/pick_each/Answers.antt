@@ -1,5 +1,5 @@
-use Rattle.std.proofs.Common.{rules, ◌≡◌, ◌∙◌}
-use Rattle.iobuf_chain.proofs.Moved.{picks_step, picks_end}
+use Rattle.std.proofs.Common.{rules, ◌≡◌, ◌∙◌, refl}
+use Rattle.iobuf_chain.proofs.Moved.{picks_begin, picks_step, picks_end}
 use Rattle.iobuf_chain.proofs.managed.pick_each.Goals as goal
 
 pub nodes-preserved : goal.nodes-preserved
@@ -12,3 +12,6 @@ nodes-preserved g c = record {
 
 pub returns-clause-picks : goal.returns-clause-picks
 returns-clause-picks g c = picks_end _ _ _ _ c.nodes.invariant.picks (search rules)
+
+pub nodes-init : goal.nodes-init
+nodes-init g c = record { picks = picks_begin _ _ c.requires; mint = refl }

@@ -1,5 +1,5 @@
 use Rattle.std.proofs.Common.{◌≡◌, arith}
-use Rattle.iobuf_chain.proofs.Ranged.{to_step, to_end, to_refused, to_stop, some_mint, refused_mint}
+use Rattle.iobuf_chain.proofs.Ranged.{to_begin, to_step, to_end, to_refused, to_stop, some_mint, refused_mint}
 use Rattle.iobuf_chain.proofs.range.share_parts.Goals as goal
 
 pub returns-in-Err-clause-refused : goal.returns-in-Err-clause-refused
@@ -19,3 +19,6 @@ returns-clause-shares g c = to_end _ _ _ _ _ _ _ _ _ _ c.nodes.invariant (omega 
 
 pub returns-clause-mint : goal.returns-clause-mint
 returns-clause-mint g c = some_mint _ _ _ _ _ _ _ _ (to_stop _ _ _ _ _ _ _ _ _ _ c.nodes.invariant)
+
+pub nodes-init : goal.nodes-init
+nodes-init g c = to_begin _ _ _ _ _ c.requires.there c.requires.none

@@ -12,7 +12,5 @@ absorb-requires g c =
     let given : receipt_in c.give_back.result ≡ Some c.in-Some.receipt = sym c.receipt.ensures ∙ c.in-Some.is in
     let of = receipt_of_storage g.O.Release.runs g.O.Release.last (hold_of clone) c.give_back.result c.in-Some.receipt c.give_back.ensures.back given in
     let on = clone_on_storage c.args.mint.now c.clone_one.new.mint c.args.node c.clone_one.new.self clone c.in-Some.receipt c.in_ok-clone.ensures.clone c.requires of in
-    let made = c.in-Ok.ensures in
-    let nodes : c.clone_one.new.self ∷ [] ≡ c.in-Ok.chain = cc made in
     let P : List (Segment g.row.O.Denot) → Type 0 = λ xs. AgreesWith c.in-Some.receipt xs in
-    subst P nodes ((λ _. on), tt)
+    subst P (sym c.of-chain.ensures) ((λ _. on), tt)
