@@ -2,12 +2,13 @@
 #![tactic(auto)]
 
 ghost use Rattle.std.specs.Prelude.{◌≡◌, ℕ, ◌+◌, ◌<◌, ◌^◌, List, [], ◌++◌, flat_map, length, IfOk, IsErrOf, IsTrue, OnOk};
+ghost use Rattle.buffer_model.specs.Segment.{bytes_of};
 ghost use Rattle.frame_head.specs.Units.{ended};
 ghost use Rattle.frame_rule.specs.Decoding.{TakesIn};
 ghost use Rattle.frame_rule.specs.Units.{units_of};
 
 use frame_rule::{Decoder, FeedFault, FrameUnit, Haul};
-use iobuf_chain::Chain;
+use iobuf_chain::{Chain, Frame};
 use iobuf_node::IoBuf;
 use share_count::Mint;
 use std::alloc::Global;
@@ -52,11 +53,16 @@ fn feed_copy<D: Decoder>(
     ensures codec { OnOk result ((D.state decoder.new).codec ≡ (D.state decoder.old).codec) }
     ensures dead { IsErrOf result FeedFault.Dead → IsTrue (D.state decoder.old).dead }
 {
-    let Ok(node) = IoBuf::copy(alloc, bytes, 0, 0, mint) else {
-        return Err(FeedFault::NoMemory);
-    };
-    match Chain::of(alloc, node) {
-        Ok(piece) => decoder.feed(alloc, piece, haul, mint),
+    let piece = copy_of(alloc, bytes, mint)?;
+    decoder.feed(alloc, piece, haul, mint)
+}
+
+fn copy_of(alloc: Global, bytes: &[u8], mint: &mut Mint) -> Result<Frame, FeedFault>
+    ensures bytes { IfOk result (λ c. bytes_of c ≡ bytes.now) }
+    ensures refused { IsErrOf result FeedFault.Dead → ⊥ }
+{
+    match IoBuf::copy(alloc, bytes, 0, 0, mint) {
+        Ok(node) => Ok(Chain::of(alloc, node)),
         Err(_) => Err(FeedFault::NoMemory),
     }
 }

@@ -24,10 +24,7 @@ use std::mem;
 fn nothing(alloc: Global) -> Frame
     ensures { result ≡ whole_window [] wrapped ∷ [] }
 {
-    match Chain::of(alloc, IoBuf::wrap(&[])) {
-        Ok(chain) => chain,
-        Err(_) => unreachable!(),
-    }
+    Chain::of(alloc, IoBuf::empty())
 }
 
 // The first `k` bytes leave. Where these are all, so do all nodes, and one without data and storage stays; and one such

@@ -117,10 +117,7 @@ pub(crate) fn one_node(alloc: Global, bytes: &[u8], mint: &mut Mint) -> Result<F
         return Err(Fail::from("too long for a trial"));
     }
     let node = IoBuf::copy(alloc, bytes, 0, 0, mint)?;
-    match Chain::of(alloc, node) {
-        Ok(piece) => Ok(piece),
-        Err(_) => Err(Fail::from("no chain")),
-    }
+    Ok(Chain::of(alloc, node))
 }
 
 // A piece with a node for each of these texts, behind an empty one.

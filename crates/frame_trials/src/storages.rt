@@ -28,10 +28,7 @@ fn lent_piece(alloc: Global, bytes: &[u8], mint: &mut Mint) -> Result<Frame, Fai
     let Ok(node) = IoBuf::from_lent(alloc, Lent { number: 7, bytes }, used, mint) else {
         return Err(Fail::from("no memory"));
     };
-    match Chain::of(alloc, node) {
-        Ok(piece) => Ok(piece),
-        Err(_) => Err(Fail::from("no chain")),
-    }
+    Ok(Chain::of(alloc, node))
 }
 
 // Feeds pieces of one node each, on lent blocks.
