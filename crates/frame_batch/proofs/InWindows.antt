@@ -27,31 +27,39 @@ between_rest from to k xs within =
     ∙ sym (drop-take k (to - (from + k)) (drop from xs))
     ∙ ap (λ (n : ℕ). drop k (take n (drop from xs))) (sym parts)
 
+-- as many as the list is seen to have
+pub few : {X : Type 0} (from to k : ℕ) (xs v : List X) → between from to xs ≡ v → to ≤ length xs → k ≤ length v → k ≤ to - from
+few from to k xs v is high low =
+    let count = between-length from to xs high in
+    let l = ap length is in
+    omega (arith, count, l, low)
+
+pub first_ones : {X : Type 0} (from to k : ℕ) (xs v : List X) → between from to xs ≡ v → to ≤ length xs → k ≤ length v
+    → between from (from + k) xs ≡ take k v
+first_ones from to k xs v is high low = between_first from to k xs (few from to k xs v is high low) ∙ ap (λ us. take k us) is
+
+pub other_ones : {X : Type 0} (from to k : ℕ) (xs v : List X) → between from to xs ≡ v → to ≤ length xs → k ≤ length v
+    → between (from + k) to xs ≡ drop k v
+other_ones from to k xs v is high low = between_rest from to k xs (few from to k xs v is high low) ∙ ap (λ us. drop k us) is
+
 pub rest_in : (all : List ℕ) (w : Window) (ws : List Window) → AreIn all (w ∷ ws) → AreIn all ws
 rest_in all w ws are = λ k d lt. are (suc k) d (omega (arith, lt))
 
 -- a batch has as many frames as windows
-pub count_is : (chain : List (Segment NoOwner)) (ws : List Window) (from to : ℕ) (v : Batched) → batched chain (between from to ws) ≡ v → to ≤ length ws → length v.frames ≡ to - from
-count_is chain ws from to v is high =
-    ap (λ (b : Batched). length b.frames) (sym is) ∙ length-map (between from to ws) (λ w. frame_in (bytes_of chain) w) ∙ between-length from to ws high
+pub count_is : (chain : List (Segment NoOwner)) (ws : List Window) (v : Batched) → batched chain ws ≡ v → length v.frames ≡ length ws
+count_is chain ws v is = ap (λ (b : Batched). length b.frames) (sym is) ∙ length-map ws (λ w. frame_in (bytes_of chain) w)
 
-pub kept_first : (chain : List (Segment NoOwner)) (ws : List Window) (from to k : ℕ) (v : Batched) → batched chain (between from to ws) ≡ v → to ≤ length ws → k ≤ length v.frames
-    → batched chain (between from (from + k) ws) ≡ record v { frames = take k v.frames }
-kept_first chain ws from to k v is high within =
-    let count = count_is chain ws from to v is high in
-    let first = between_first from to k ws (omega (arith, within, count)) in
-    let frames : frames_in (bytes_of chain) (between from (from + k) ws) ≡ take k (frames_in (bytes_of chain) (between from to ws)) =
-    ap (λ us. frames_in (bytes_of chain) us) first ∙ sym (take-map (λ w. frame_in (bytes_of chain) w) k (between from to ws)) in
-    ap (λ fs. record (batched chain ws) { frames = fs }) frames ∙ ap (λ (b : Batched). record b { frames = take k b.frames }) is
+pub kept_first : (chain : List (Segment NoOwner)) (ws : List Window) (k : ℕ) (v : Batched) → batched chain ws ≡ v
+    → batched chain (take k ws) ≡ record v { frames = take k v.frames }
+kept_first chain ws k v is =
+    ap (λ fs. record (batched chain ws) { frames = fs }) (sym (take-map (λ w. frame_in (bytes_of chain) w) k ws))
+    ∙ ap (λ (b : Batched). record b { frames = take k b.frames }) is
 
-pub dropped_first : (chain : List (Segment NoOwner)) (ws : List Window) (from to k : ℕ) (v : Batched) → batched chain (between from to ws) ≡ v → to ≤ length ws → k ≤ length v.frames
-    → batched chain (between (from + k) to ws) ≡ record v { frames = drop k v.frames }
-dropped_first chain ws from to k v is high within =
-    let count = count_is chain ws from to v is high in
-    let rest = between_rest from to k ws (omega (arith, within, count)) in
-    let frames : frames_in (bytes_of chain) (between (from + k) to ws) ≡ drop k (frames_in (bytes_of chain) (between from to ws)) =
-    ap (λ us. frames_in (bytes_of chain) us) rest ∙ sym (drop-map (λ w. frame_in (bytes_of chain) w) k (between from to ws)) in
-    ap (λ fs. record (batched chain ws) { frames = fs }) frames ∙ ap (λ (b : Batched). record b { frames = drop k b.frames }) is
+pub dropped_first : (chain : List (Segment NoOwner)) (ws : List Window) (k : ℕ) (v : Batched) → batched chain ws ≡ v
+    → batched chain (drop k ws) ≡ record v { frames = drop k v.frames }
+dropped_first chain ws k v is =
+    ap (λ fs. record (batched chain ws) { frames = fs }) (sym (drop-map (λ w. frame_in (bytes_of chain) w) k ws))
+    ∙ ap (λ (b : Batched). record b { frames = drop k b.frames }) is
 
 pub has_its_size : (all : List ℕ) (w : Window) → w.place + w.size ≤ length all → length (frame_in all w) ≡ w.size
 has_its_size all w within =

@@ -29,10 +29,10 @@ batched chain ws = record { chain = chain; frames = frames_in (bytes_of chain) w
 abbrev pub whole_of : List (Segment NoOwner) → Window
 whole_of chain = record { place = 0; size = length (bytes_of chain) }
 
--- the windows of a list, and where there is no list the one on all bytes
-abbrev pub windows_on : List (Segment NoOwner) → Option (List Window) → List Window
-windows_on chain None = whole_of chain ∷ []
-windows_on chain (Some ws) = ws
+-- the windows of a list, and where there is no list one alone
+abbrev pub many_or : Window → Option (List Window) → List Window
+many_or one None = one ∷ []
+many_or one (Some many) = many
 
 -- a window that may be there
 abbrev pub window_in : Option Window → List Window

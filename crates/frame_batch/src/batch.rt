@@ -10,8 +10,8 @@ ghost use Rattle.iobuf_chain.specs.Shares.{ClonesEach, Regains};
 ghost use Rattle.frame_batch.specs.Batches.{AreIn, chain_in, frame_in, frames_in, whole_of};
 
 use crate::frames::Frames;
-use crate::listed::Listed;
-use crate::window::{Window, Windows};
+use crate::window::Window;
+use crate::window_list::WindowList;
 use iobuf_chain::Frame;
 use share_count::Mint;
 use std::alloc::{AllocError, Global};
@@ -22,25 +22,18 @@ use std::marker::Model;
 #[derive(Drop)]
 pub struct Batch {
     chain: Frame,
-    // Where there is no list, the one window on all bytes.
-    windows: Option<Listed>,
-    // The frames are the windows from one up to another.
-    from: usize,
-    to: usize,
+    windows: WindowList,
 }
 
 impl Model for Batch {
-    ghost use Rattle.std.specs.Prelude.{◌≤◌, length};
     ghost use Rattle.buffer_model.specs.Segment.{bytes_of};
-    ghost use Rattle.iobuf_chain.specs.Lists.{between};
-    ghost use Rattle.frame_batch.specs.Batches.{AreIn, Batched, batched, windows_on};
+    ghost use Rattle.frame_batch.specs.Batches.{AreIn, Batched, batched};
 
     ghost Value = { Batched };
 
-    ghost view = { λ b. batched b.chain (between b.from b.to (windows_on b.chain b.windows)) };
+    ghost view = { λ b. batched b.chain b.windows };
 
-    ghost invariant = { λ b. (b.from ≤ b.to) × (b.to ≤ length (windows_on b.chain b.windows))
-        × AreIn (bytes_of b.chain) (windows_on b.chain b.windows) };
+    ghost invariant = { λ b. AreIn (bytes_of b.chain) b.windows };
 }
 
 impl Batch {
@@ -49,12 +42,8 @@ impl Batch {
         ensures chain { result.chain ≡ chain.entry }
         ensures frames { result.frames ≡ bytes_of chain.entry ∷ [] }
     {
-        Batch {
-            chain,
-            windows: None,
-            from: 0,
-            to: 1,
-        }
+        let windows = WindowList::one(whole(&chain));
+        Batch { chain, windows }
     }
 
     /// The frames in these windows on the chain's bytes, in the order of the list. Windows may overlap, and may stand
@@ -66,16 +55,29 @@ impl Batch {
         ensures frames { IfOk result (λ b. b.frames ≡ frames_in (bytes_of chain.entry) windows.items) }
         ensures refused { IfErr result (λ c. c ≡ chain.entry) }
     {
-        let to = windows.len();
-        match Listed::new(alloc, windows) {
-            Ok(list) => Ok(Batch {
-                chain,
-                windows: Some(list),
-                from: 0,
-                to,
-            }),
+        match WindowList::new(alloc, windows) {
+            Ok(windows) => Ok(Batch { chain, windows }),
             Err(_) => Err(chain),
         }
+    }
+
+    /// The same of a list that is there already. O(1), and no memory. The windows of a batch that was taken apart lie in
+    /// any chain with at least as many bytes as its own has.
+    pub fn from_parts(chain: Frame, windows: WindowList) -> Batch
+        requires { AreIn (bytes_of chain) windows }
+        ensures chain { result.chain ≡ chain.entry }
+        ensures frames { result.frames ≡ frames_in (bytes_of chain.entry) windows }
+    {
+        Batch { chain, windows }
+    }
+
+    /// The chain, and the windows on it. O(1), and no memory.
+    pub fn into_parts(self) -> (Frame, WindowList)
+        ensures chain { result.0 ≡ self.chain }
+        ensures frames { frames_in (bytes_of result.0) result.1 ≡ self.frames }
+        ensures within { AreIn (bytes_of result.0) result.1 }
+    {
+        (self.chain, self.windows)
     }
 
     /// How many frames there are. O(1).
@@ -83,7 +85,7 @@ impl Batch {
     pub fn len(&self) -> usize
         ensures { result ≡ length self.now.frames }
     {
-        self.to - self.from
+        self.windows.len()
     }
 
     /// Whether there is no frame. O(1).
@@ -98,8 +100,7 @@ impl Batch {
         requires { k ≤ length self.old.frames }
         ensures { self.new ≡ record self.old { frames = take k self.old.frames } }
     {
-        let _to = self.to;
-        self.to = self.from + k;
+        self.windows.keep_first(k);
     }
 
     /// The first `k` frames go. The chain keeps its bytes. O(1).
@@ -107,8 +108,7 @@ impl Batch {
         requires { k ≤ length self.old.frames }
         ensures { self.new ≡ record self.old { frames = drop k self.old.frames } }
     {
-        let _to = self.to;
-        self.from += k;
+        self.windows.drop_first(k);
     }
 
     /// The chain in which the frames lie. It may have bytes that are in no frame.
@@ -133,10 +133,7 @@ impl Batch {
         ensures frame { slice_get self.now.frames i ≡ Some (frame_in (bytes_of self.now.chain) result) }
         ensures within { result.place + result.size ≤ length (bytes_of self.now.chain) }
     {
-        match &self.windows {
-            Some(list) => list.windows()[self.from + i],
-            None => whole(&self.chain),
-        }
+        self.windows.window(i)
     }
 
     /// The frames in these windows take the place of those that were there; the chain stays. For a stage that drops
@@ -148,14 +145,10 @@ impl Batch {
             ≡ record self.old { frames = frames_in (bytes_of self.old.chain) windows.items }) }
         ensures refused { OnErr result (self.new ≡ self.old) }
     {
-        let to = windows.len();
-        let list = match Listed::new(alloc, windows) {
+        self.windows = match WindowList::new(alloc, windows) {
             Ok(list) => list,
             Err(e) => return Err(e),
         };
-        self.windows = Some(list);
-        self.from = 0;
-        self.to = to;
         Ok(())
     }
 
@@ -165,17 +158,7 @@ impl Batch {
     pub fn frames(&self) -> Frames<'_>
         ensures { result ≡ self.now.frames }
     {
-        match &self.windows {
-            Some(list) => Frames::new(
-                &self.chain,
-                Windows::of(&list.windows()[self.from..self.to]),
-            ),
-            None if self.from < self.to => Frames::new(
-                &self.chain,
-                Windows::one(whole(&self.chain)),
-            ),
-            None => Frames::new(&self.chain, Windows::of(&[])),
-        }
+        Frames::new(&self.chain, self.windows.in_turn())
     }
 }
 
@@ -200,19 +183,15 @@ impl Batch {
         ensures copies { WithData IsShareable self.old.chain
             → IfOk result (λ b. CopiesNoData self.old.chain b.chain) }
     {
-        let Ok(windows) = again(&self.windows) else {
-            return Err(AllocError);
+        let windows = match self.windows.again() {
+            Ok(windows) => windows,
+            Err(e) => return Err(e),
         };
         let chain = match self.chain.share_all(alloc, mint) {
             Ok(chain) => chain,
             Err(e) => return Err(e),
         };
-        Ok(Batch {
-            chain,
-            windows,
-            from: self.from,
-            to: self.to,
-        })
+        Ok(Batch { chain, windows })
     }
 
     /// The first `k` frames leave, as a batch over a share of the chain; the others stay. It copies, takes memory and
@@ -251,19 +230,6 @@ fn whole(chain: &Frame) -> Window
     Window {
         place: 0,
         size: chain.length() as u64,
-    }
-}
-
-// The same list, where there is one.
-fn again(windows: &Option<Listed>) -> Result<Option<Listed>, AllocError>
-    ensures { IfOk result (λ w. w ≡ windows.now) }
-{
-    match windows {
-        None => Ok(None),
-        Some(list) => match list.again() {
-            Ok(list) => Ok(Some(list)),
-            Err(e) => Err(e),
-        },
     }
 }
 

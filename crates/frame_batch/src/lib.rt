@@ -13,8 +13,10 @@ mod spot;
 #[cfg(test)]
 mod tests;
 mod window;
+mod window_list;
 
 pub use batch::Batch;
 pub use frames::Frames;
 pub use parts::Parts;
 pub use window::Window;
+pub use window_list::WindowList;

@@ -20,7 +20,7 @@ fn node(rt: &impl Abort, alloc: Global, text: &'static str, mint: &mut Mint) -> 
             IoBuf::copy(alloc, text.as_bytes(), 1, 2, mint).expect(rt, "memory for a node")
         }
     };
-    Chain::of(alloc, node).expect(rt, "a chain")
+    Chain::of(alloc, node)
 }
 
 // A chain of nodes with a bar between them, as `ab||&c`.

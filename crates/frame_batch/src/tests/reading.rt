@@ -1,6 +1,6 @@
 //! Frames that are read in place.
 use super::{batch_of, chain_of, reads, windows_of};
-use crate::{Batch, Window};
+use crate::{Batch, Window, WindowList};
 use share_count::Mint;
 use std::alloc::Global;
 use std::fmt::Write;
@@ -97,6 +97,35 @@ fn windows_change(rt: HostRuntime) {
     assert!(rt; reads(&rt, alloc, &one, &["b"]));
     set(&rt, alloc, &mut one, &[]);
     assert!(rt; reads(&rt, alloc, &one, &[]));
+}
+
+#[test]
+fn a_batch_is_taken_apart(rt: HostRuntime) {
+    let alloc = rt.alloc();
+    let mut batch = batch_of(
+        &rt,
+        alloc,
+        "ab|&cd",
+        &[(0, 1), (1, 3), (4, 0)],
+        &mut Mint::new(),
+    );
+    assert!(rt; batch.len() == 3);
+    batch.drop_first(1);
+    let (chain, windows) = batch.into_parts();
+    assert!(rt; windows.len() == 2 && !windows.is_empty());
+    assert!(rt; windows.window(0) == Window { place: 1, size: 3 });
+    let same = Batch::from_parts(chain, windows);
+    assert!(rt; reads(&rt, alloc, &same, &["b|cd", ""]));
+    let chain = same.into_chain();
+    let list = windows_of(&rt, alloc, &[(0, 2), (3, 1)]);
+    assert!(rt; Window::are_in(&list, chain.length()));
+    let list = WindowList::new(alloc, list).expect(&rt, "memory for a list");
+    let other = Batch::from_parts(chain, list);
+    assert!(rt; reads(&rt, alloc, &other, &["ab", "d"]));
+    let chain = other.into_chain();
+    assert!(rt; chain.length() == 4);
+    let last = Batch::from_parts(chain, WindowList::one(Window { place: 2, size: 2 }));
+    assert!(rt; reads(&rt, alloc, &last, &["cd"]));
 }
 
 // Whether frame i lies there.

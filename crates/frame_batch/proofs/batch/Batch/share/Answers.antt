@@ -6,8 +6,8 @@ use Rattle.iobuf_chain.proofs.Rejoined.{regains_each}
 use Rattle.frame_batch.specs.Batches.{Batched}
 use Rattle.frame_batch.proofs.batch.Batch.share.Goals as goal
 
-pub returns-in_default-clause-refused : goal.returns-in_default-clause-refused
-returns-in_default-clause-refused c = regains_each _ _ refl
+pub returns-in-Err-clause-refused : goal.returns-in-Err-clause-refused
+returns-in-Err-clause-refused c = regains_each _ _ refl
 
 pub returns-clause-left : goal.returns-clause-left
 returns-clause-left c = λ k few had.
