@@ -9,3 +9,5 @@ mod Raising
 mod Clearing
 mod Cutting
 mod Reading
+mod Placing
+mod Moving

@@ -32,6 +32,10 @@ module _ {H : Type 0} (machine : H → Machine) where
   at_stage (s ∷ ss) zero d low = refl
   at_stage (s ∷ ss) (suc i) d low = at_stage ss i d (omega arith)
 
+  pub stage_there : (stages : List (Stage H)) (i : ℕ) (s : Stage H) → i < length stages → s ≡ get_or stages i s
+      → slice_get (meanings machine stages) i ≡ Some (meaning_of machine s)
+  stage_there stages i s low is = at_stage stages i s low ∙ ap (λ t. Some (meaning_of machine t)) (sym is)
+
   pub set_stage : (stages : List (Stage H)) (i : ℕ) (s : Stage H)
       → meanings machine (slice_set stages i s) ≡ slice_set (meanings machine stages) i (meaning_of machine s)
   set_stage stages i s = map-set (λ t. meaning_of machine t) stages i s

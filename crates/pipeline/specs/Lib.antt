@@ -3,3 +3,4 @@ pub mod Meanings
 pub mod Stages
 pub mod Nodes
 pub mod Laws
+pub mod Batches

@@ -95,10 +95,7 @@ fn leave(frame: &mut Frame) -> Back
     requires { 1 < length frame.old }
     ensures { LeavesFirst frame.old frame.new result }
 {
-    let Ok(node) = frame.pop() else {
-        unreachable!()
-    };
-    let Some(back) = node.give_back().pop() else {
+    let Some(back) = frame.pop().give_back().pop() else {
         unreachable!()
     };
     back

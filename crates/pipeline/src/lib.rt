@@ -10,6 +10,7 @@ mod step;
 #[cfg(test)]
 mod tests;
 mod upper;
+mod windows;
 
 pub use handler::{AnyHandler, Handler};
 pub use pipeline::Pipeline;

@@ -1,11 +1,14 @@
 //! Lists of stages.
-ghost use Rattle.std.specs.Prelude.{◌≡◌, ◌+◌, ◌<◌, ◌++◌, length, IfErr, IfOk, IfSome, IsOk, OnOk};
+ghost use Rattle.std.specs.Prelude.{◌≡◌, ◌+◌, ◌<◌, ◌++◌, ◌↔◌, length, map, None, IfErr, IfOk, IfSome, IsOk, IsTrue, OnOk};
 ghost use Rattle.buffer_model.specs.Segment.{bytes_of};
 ghost use Rattle.buffer_model.specs.Minted.{NumbersOn};
 ghost use Rattle.buffer_model.specs.Stake.{KeepsTotalsBeside};
 ghost use Rattle.iobuf_chain.specs.Accounts.{held_by};
 ghost use Rattle.iobuf_chain.specs.Copies.{CopiesNoData};
 ghost use Rattle.iobuf_chain.specs.Lists.{Each};
+ghost use Rattle.frame_batch.specs.Batches.{AreIn, frames_in};
+ghost use Rattle.pipeline.specs.Batches.{answers, handed_in, lettered, MovesBatch, nodes_in};
+ghost use Rattle.pipeline.specs.Plain.{raised};
 ghost use Rattle.pipeline.specs.Meanings.{answer, IsCut, IsPlain, later_all, RefusesAt};
 ghost use Rattle.pipeline.specs.Nodes.{AreWhole, HandsBack, listed, Sheds, stakes_back, Works};
 ghost use Rattle.pipeline.specs.Stages.{back_in, frame_in, IsList, meanings, said_of, stage_frame, StepsSo};
@@ -13,6 +16,9 @@ ghost use Rattle.pipeline.specs.Stages.{back_in, frame_in, IsList, meanings, sai
 use crate::handler::{AnyHandler, Handler};
 use crate::stage::{Stage, read_stage};
 use crate::step::Step;
+use crate::upper::raise;
+use crate::windows::{are_plain, place_all, raises};
+use frame_batch::{Batch, WindowList};
 use iobuf_chain::Frame;
 use share_count::Mint;
 use std::alloc::Global;
@@ -79,6 +85,54 @@ impl<H: Handler> Pipeline<H> {
             Err(frame) => Err((frame, returned(backs))),
         }
     }
+
+    /// Whether no stage is a handler, so that batches may go through. O(stages).
+    pub fn is_plain(&self) -> bool
+        ensures { IsTrue result ↔ Each IsPlain (meanings H.machine self.now) }
+    {
+        are_plain(&self.stages)
+    }
+
+    /// Puts the frames of a batch through the stages, which are no handlers. Those that are skipped leave the batch,
+    /// and no other does. `Strip`, `Keep` and `Min` change windows alone. With an `Upper` among the stages each node of the
+    /// chain whose storage others may hold moves to a copy of its block first, and what it hands back comes beside the
+    /// batch; then all letters of the chain become capital ones, those that lie in no frame too. It takes memory for
+    /// the new list of windows, two allocations, and for `Upper`. At want of memory the batch comes back with its
+    /// frames as they were, and of its chain some nodes may have moved. O(frames * stages), and with `Upper` O(bytes of
+    /// the chain).
+    pub fn read_batch(
+        &self,
+        alloc: Global,
+        batch: Batch,
+        mint: &mut Mint,
+    ) -> Result<(Batch, Option<Returns>), (Batch, Option<Returns>)>
+        requires { Each IsPlain (meanings H.machine self.now) }
+        ensures frames { IfOk result (λ a. a.0.frames ≡ answers (meanings H.machine self.now) batch.frames) }
+        ensures bytes { IfOk result (λ a. bytes_of a.0.chain
+            ≡ lettered (meanings H.machine self.now) (bytes_of batch.chain)) }
+        ensures same { IfErr result (λ a. a.0.frames ≡ batch.frames) }
+        ensures kept { IfErr result (λ a. bytes_of a.0.chain ≡ bytes_of batch.chain) }
+        ensures nodes { Each IsCut (meanings H.machine self.now) → nodes_in result ≡ batch.chain }
+        ensures none { Each IsCut (meanings H.machine self.now) → handed_in result ≡ None }
+        ensures mint { NumbersOn mint.old mint.new }
+        ensures totals { KeepsTotalsBeside mint.old mint.new
+            (held_by batch.chain) (held_by (nodes_in result) ++ stakes_back (handed_in result)) }
+        ensures back { HandsBack mint.old mint.new batch.chain (nodes_in result) (handed_in result) }
+        ensures whole { AreWhole batch.chain
+            → length batch.chain ≡ length (nodes_in result) + length (listed (handed_in result)) }
+        ensures some { IfSome (handed_in result) (λ backs. 0 < length backs) }
+        ensures copies { Each IsCut (meanings H.machine self.now) → CopiesNoData batch.chain (nodes_in result) }
+    {
+        let windows = match place_all(&self.stages, &batch, alloc) {
+            Ok(windows) => windows,
+            Err(_) => return Err((batch, None)),
+        };
+        let (chain, old) = batch.into_parts();
+        if !raises(&self.stages) {
+            return Ok((Batch::from_parts(chain, windows), None));
+        }
+        raise_batch(alloc, chain, old, windows, mint)
+    }
 }
 
 // What was handed back, where anything was.
@@ -118,6 +172,30 @@ fn read_all<H: Handler>(
         }
     }
     Ok(Step::Pass(frame))
+}
+
+// The letters of a batch's chain become capital ones, and the new windows take the place of the old.
+fn raise_batch(
+    alloc: Global,
+    chain: Frame,
+    old: WindowList,
+    new: WindowList,
+    mint: &mut Mint,
+) -> Result<(Batch, Option<Returns>), (Batch, Option<Returns>)>
+    requires old { AreIn (bytes_of chain) old }
+    requires new { AreIn (bytes_of chain) new }
+    ensures frames { IfOk result (λ a. a.0.frames ≡ frames_in (map raised (bytes_of chain.entry)) new) }
+    ensures bytes { IfOk result (λ a. bytes_of a.0.chain ≡ map raised (bytes_of chain.entry)) }
+    ensures same { IfErr result (λ a. a.0.frames ≡ frames_in (bytes_of chain.entry) old) }
+    ensures kept { IfErr result (λ a. bytes_of a.0.chain ≡ bytes_of chain.entry) }
+    ensures back { MovesBatch mint.old mint.new chain.entry (nodes_in result) (handed_in result) }
+{
+    let mut chain = chain;
+    let mut backs = VecDeque::new(alloc);
+    match raise(&mut chain, alloc, &mut backs, mint) {
+        Ok(()) => Ok((Batch::from_parts(chain, new), returned(backs))),
+        Err(_) => Err((Batch::from_parts(chain, old), returned(backs))),
+    }
 }
 
 impl<H: Drop> fmt::Debug for Pipeline<H> {

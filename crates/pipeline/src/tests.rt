@@ -1,3 +1,4 @@
+mod batches;
 mod handlers;
 mod rows;
 
@@ -8,6 +9,29 @@ use share_count::Mint;
 use std::alloc::Global;
 use std::process::Abort;
 use storage::Returns;
+
+// A stage of a row.
+#[derive(Clone, Copy)]
+enum Kind {
+    S(u32),
+    K(u32),
+    U,
+    M(u32),
+}
+
+fn pipeline_of(rt: &impl Abort, alloc: Global, kinds: &[Kind]) -> Pipeline {
+    let mut stages: Vec<Stage> = Vec::new(alloc);
+    for kind in kinds {
+        let stage = match *kind {
+            Kind::S(n) => Stage::Strip(n),
+            Kind::K(n) => Stage::Keep(n),
+            Kind::U => Stage::Upper,
+            Kind::M(n) => Stage::Min(n),
+        };
+        stages.push(stage).expect(rt, "memory for a stage");
+    }
+    Pipeline::new(stages)
+}
 
 // A frame of a node for each part between bars, each on a storage of its own, as `ab||c`.
 fn frame_of(rt: &impl Abort, alloc: Global, text: &'static str, mint: &mut Mint) -> Frame {
@@ -26,7 +50,7 @@ fn frame_of(rt: &impl Abort, alloc: Global, text: &'static str, mint: &mut Mint)
 fn node_of(rt: &impl Abort, alloc: Global, text: &'static str, mint: &mut Mint) -> Frame {
     assert!(rt; text.len() <= 1000);
     let node = IoBuf::copy(alloc, text.as_bytes(), 0, 0, mint).expect(rt, "memory for a node");
-    Chain::of(alloc, node).expect(rt, "a chain")
+    Chain::of(alloc, node)
 }
 
 // Whether a frame has these nodes.

@@ -1,17 +1,7 @@
-use crate::tests::{came_back, frame_of, shows, told};
-use crate::{Pipeline, Stage};
+use crate::tests::{Kind, came_back, frame_of, pipeline_of, shows, told};
 use share_count::Mint;
 use std::alloc::Global;
 use std::process::Abort;
-
-// A stage of a row.
-#[derive(Clone, Copy)]
-enum Kind {
-    S(u32),
-    K(u32),
-    U,
-    M(u32),
-}
 
 // Stages, a frame, what becomes of it, its nodes afterwards, and how many were handed back.
 type Row = (
@@ -21,20 +11,6 @@ type Row = (
     &'static str,
     usize,
 );
-
-fn pipeline_of(rt: &impl Abort, alloc: Global, kinds: &[Kind]) -> Pipeline {
-    let mut stages: Vec<Stage> = Vec::new(alloc);
-    for kind in kinds {
-        let stage = match *kind {
-            Kind::S(n) => Stage::Strip(n),
-            Kind::K(n) => Stage::Keep(n),
-            Kind::U => Stage::Upper,
-            Kind::M(n) => Stage::Min(n),
-        };
-        stages.push(stage).expect(rt, "memory for a stage");
-    }
-    Pipeline::new(stages)
-}
 
 // Puts a row's frame through its stages.
 fn reads(rt: &impl Abort, alloc: Global, row: Row) {
@@ -112,4 +88,20 @@ fn letters_do_not_show_elsewhere(rt: HostRuntime) {
     assert!(rt; told(&step, "AB||C") == ("pass", true));
     assert!(rt; came_back(back) == 3);
     assert!(rt; shows(&other, "ab||c"));
+}
+
+#[test]
+fn a_node_that_is_found_alone_is_not_copied(rt: HostRuntime) {
+    let alloc = rt.alloc();
+    let mut mint = Mint::new();
+    let mut frame = frame_of(&rt, alloc, "ab|c", &mut mint);
+    // A share that is gone again: the nodes don't have all weight, and nobody else holds their storages.
+    drop(frame.share_all(alloc, &mut mint).expect(&rt, "a share"));
+    let mut pipeline = pipeline_of(&rt, alloc, &[Kind::U]);
+    let (step, back) = pipeline
+        .read(alloc, frame, &mut mint)
+        .ok()
+        .expect(&rt, "memory for the list");
+    assert!(rt; told(&step, "AB|C") == ("pass", true));
+    assert!(rt; came_back(back) == 0);
 }

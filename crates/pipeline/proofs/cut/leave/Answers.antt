@@ -3,5 +3,5 @@ use Rattle.pipeline.proofs.cut.leave.Goals as goal
 
 pub returns : goal.returns
 returns c =
-    leaves_first _ c.args.frame.now c.pop.new.self c.in-Ok.node c.give_back.result c.pop-2.new.self c.in-Some.back c.requires c.in-Ok.ensures.taken
-    c.in-Ok.ensures.left c.give_back.ensures.backs c.give_back.ensures.totals c.in-Some.ensures
+    leaves_first _ c.args.frame.now c.pop.new.self c.pop.result c.give_back.result c.pop-2.new.self c.in-Some.back c.requires c.pop.ensures.taken
+    c.pop.ensures.left c.give_back.ensures.backs c.give_back.ensures.totals c.in-Some.ensures
