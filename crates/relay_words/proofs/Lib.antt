@@ -1,3 +1,4 @@
+pub mod Named
 pub mod Cuts
 pub mod Digits
 pub mod Pairs

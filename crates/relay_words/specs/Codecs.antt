@@ -5,7 +5,7 @@ use Rattle.frame_head.specs.declared.codecs.Codec.TheVariants.{Length, Line, Del
 use Rattle.frame_head.specs.declared.codecs.LineEnd.{LineEnd}
 use Rattle.frame_head.specs.declared.codecs.LineEnd.TheVariants.{Any, Lf, Crlf}
 use Rattle.relay_words.specs.Numbers.{number, number_in, adjustment}
-use Rattle.relay_words.specs.Parts.{between_commas, is_keyed, value_of, given_or, with}
+use Rattle.relay_words.specs.Parts.{between_commas, by_kind, value_of, given_or, where_keyed, with}
 use Rattle.relay_words.specs.Hex.{hex_list}
 
 -- whether the byte with the least weight comes first
@@ -72,10 +72,6 @@ delim_codec parts =
 abbrev pub fixed_codec : List (List ℕ) → Option Codec
 fixed_codec parts = with (size_of parts) (λ size. Some (Fixed size))
 
--- what parts name, where each has one of the keys and none comes twice
-abbrev pub where_keyed : {A : Type 0} → List (List ℕ) → List (List ℕ) → Option A → Option A
-where_keyed keys parts o = if is_keyed keys parts then o else None
-
 -- the keys of each kind
 abbrev pub length_keys : List (List ℕ)
 length_keys = codes "field=" ∷ codes "offset=" ∷ codes "adjust=" ∷ codes "strip=" ∷ codes "order=" ∷ codes "max=" ∷ []
@@ -94,10 +90,6 @@ codec_by kind parts =
     else if bytes_eq kind (codes "fixed") then where_keyed (codes "size=" ∷ []) parts (fixed_codec parts)
     else None
 
-abbrev pub codec_of_parts : List (List ℕ) → Option Codec
-codec_of_parts [] = None
-codec_of_parts (kind ∷ parts) = codec_by kind parts
-
 -- the codec that a word names: its kind, and behind commas the parts
 abbrev pub codec_of : List ℕ → Option Codec
-codec_of w = codec_of_parts (between_commas w)
+codec_of w = by_kind codec_by (between_commas w)

@@ -2,9 +2,9 @@
 use Rattle.std.specs.Prelude.{ℕ, Bool, true, false, List, [], ◌∷◌, Option, Some, None, bytes_eq, codes, if◌then◌else◌}
 use Rattle.frame_head.specs.declared.out.Out.{Out}
 use Rattle.frame_head.specs.declared.out.Out.TheVariants.{Length, Line, Delim, Raw}
-use Rattle.relay_words.specs.Parts.{between_commas, value_of, given_or, with}
+use Rattle.relay_words.specs.Parts.{between_commas, by_kind, value_of, given_or, where_keyed, with}
 use Rattle.relay_words.specs.Hex.{hex_bytes}
-use Rattle.relay_words.specs.Codecs.{field_of, order_of, where_keyed}
+use Rattle.relay_words.specs.Codecs.{field_of, order_of}
 
 -- whether lines end with CRLF
 abbrev pub written_end : List ℕ → Option Bool
@@ -27,10 +27,6 @@ out_by kind parts =
     else if bytes_eq kind (codes "raw") then where_keyed [] parts (Some Raw)
     else None
 
-abbrev pub out_of_parts : List (List ℕ) → Option Out
-out_of_parts [] = None
-out_of_parts (kind ∷ parts) = out_by kind parts
-
 -- the way of writing that a word names
 abbrev pub out_of : List ℕ → Option Out
-out_of w = out_of_parts (between_commas w)
+out_of w = by_kind out_by (between_commas w)

@@ -1,95 +1,82 @@
 //! Codec words.
 ghost use Rattle.std.specs.Prelude.{◌≡◌, ◌≤◌, [], ◌∷◌, IfOk, IfSome, codes};
 ghost use Rattle.relay_words.specs.Numbers.{number, number_in};
-ghost use Rattle.relay_words.specs.Parts.{value_of, with};
+ghost use Rattle.relay_words.specs.Parts.{value_of, where_keyed, with};
 ghost use Rattle.relay_words.specs.Hex.{hex_list};
 ghost use Rattle.relay_words.specs.Codecs.{adjust_of, byte_order, end_of, field_of, line_end, max_of, number_or};
-ghost use Rattle.relay_words.specs.Codecs.{order_of, strip_of, where_keyed, yes_or_no, delim_keys};
+ghost use Rattle.relay_words.specs.Codecs.{order_of, strip_of, yes_or_no, delim_keys};
 ghost use Rattle.relay_words.specs.Codecs.{length_keys, line_keys};
 ghost use Rattle.relay_words.specs.Codecs.{codec_by, codec_of, delim_codec, fixed_codec, length_codec, line_codec};
 
 use crate::hex::read_marks;
 use crate::numbers::{adjustment, number, number_in};
-use crate::parts::{Part, cut, is_keyed, value_of};
+use crate::parts::{Kinded, Part, value_of};
 use frame_head::{Codec, LineEnd, Marks};
 use std::alloc::{AllocError, Global};
 
 /// The codec that a word names, where it has the form of one. It is O(length of the word).
+#[tactic(auto, using(crate::proofs::Named::named_by))]
 pub(crate) fn read_codec(alloc: Global, w: &[u8]) -> Result<Option<Codec>, AllocError>
     ensures { IfOk result (λ c. c ≡ codec_of w.now) }
 {
-    let parts = cut(alloc, w, b',')?;
-    match parts.split_first() {
-        None => Ok(None),
-        Some((kind, keyed)) => codec_by(alloc, kind, keyed),
-    }
+    let word = Kinded::new(alloc, w)?;
+    codec_by(alloc, &word)
 }
 
-fn codec_by(alloc: Global, kind: &Part, parts: &[Part]) -> Result<Option<Codec>, AllocError>
-    ensures { IfOk result (λ c. c ≡ codec_by kind.now parts.now) }
+fn codec_by(alloc: Global, word: &Kinded) -> Result<Option<Codec>, AllocError>
+    ensures { IfOk result (λ c. c ≡ codec_by word.now.kind word.now.parts) }
 {
-    if kind.is(b"length") {
-        return Ok(keyed_length(parts));
+    if word.is(b"length") {
+        return Ok(keyed_length(word));
     }
-    if kind.is(b"line") {
-        return Ok(keyed_line(parts));
+    if word.is(b"line") {
+        return Ok(keyed_line(word));
     }
-    if kind.is(b"delim") {
-        return keyed_delim(alloc, parts);
+    if word.is(b"delim") {
+        return keyed_delim(alloc, word);
     }
-    if kind.is(b"fixed") {
-        return Ok(keyed_fixed(parts));
+    if word.is(b"fixed") {
+        return Ok(keyed_fixed(word));
     }
     Ok(None)
 }
 
-fn keyed_length(parts: &[Part]) -> Option<Codec>
-    ensures { result ≡ where_keyed length_keys parts.now (length_codec parts.now) }
+fn keyed_length(word: &Kinded) -> Option<Codec>
+    ensures { result ≡ where_keyed length_keys word.now.parts (length_codec word.now.parts) }
 {
-    let keys = [
+    length_codec(word.keyed(&[
         Part::new(b"field="),
         Part::new(b"offset="),
         Part::new(b"adjust="),
         Part::new(b"strip="),
         Part::new(b"order="),
         Part::new(b"max="),
-    ];
-    if !is_keyed(parts, &keys) {
-        return None;
-    }
-    length_codec(parts)
+    ])?)
 }
 
-fn keyed_line(parts: &[Part]) -> Option<Codec>
-    ensures { result ≡ where_keyed line_keys parts.now (line_codec parts.now) }
+fn keyed_line(word: &Kinded) -> Option<Codec>
+    ensures { result ≡ where_keyed line_keys word.now.parts (line_codec word.now.parts) }
 {
-    let keys = [Part::new(b"end="), Part::new(b"strip="), Part::new(b"max=")];
-    if !is_keyed(parts, &keys) {
-        return None;
-    }
-    line_codec(parts)
+    line_codec(word.keyed(&[Part::new(b"end="), Part::new(b"strip="), Part::new(b"max=")])?)
 }
 
-fn keyed_delim(alloc: Global, parts: &[Part]) -> Result<Option<Codec>, AllocError>
-    ensures { IfOk result (λ c. c ≡ where_keyed delim_keys parts.now (delim_codec parts.now)) }
+fn keyed_delim(alloc: Global, word: &Kinded) -> Result<Option<Codec>, AllocError>
+    ensures { IfOk result (λ c. c ≡ where_keyed delim_keys word.now.parts (delim_codec word.now.parts)) }
 {
     let keys = [Part::new(b"hex="), Part::new(b"strip="), Part::new(b"max=")];
-    if !is_keyed(parts, &keys) {
+    let Some(parts) = word.keyed(&keys) else {
         return Ok(None);
-    }
+    };
     match list_of(alloc, parts)? {
         None => Ok(None),
         Some(list) => Ok(delim_codec(list, parts)),
     }
 }
 
-fn keyed_fixed(parts: &[Part]) -> Option<Codec>
-    ensures { result ≡ where_keyed (codes "size=" ∷ []) parts.now (fixed_codec parts.now) }
+fn keyed_fixed(word: &Kinded) -> Option<Codec>
+    ensures { result ≡ where_keyed (codes "size=" ∷ []) word.now.parts (fixed_codec word.now.parts) }
 {
-    let keys = [Part::new(b"size=")];
-    if !is_keyed(parts, &keys) {
-        return None;
-    }
+    let parts = word.keyed(&[Part::new(b"size=")])?;
     let size = number(value_of(parts, b"size=")?)?;
     Some(Codec::Fixed { size })
 }

@@ -18,11 +18,14 @@ mod parts;
 mod read;
 #[cfg(test)]
 mod rows;
+#[cfg(test)]
+mod shown;
 mod stages;
 mod subscribers;
 #[cfg(test)]
 mod tests;
 mod values;
+mod word_list;
 
 pub use faults::{UsageKind, WordFault};
 pub use name::Name;
@@ -30,3 +33,4 @@ pub use order::Order;
 pub use read::read_words;
 pub use stages::{StageWord, StageWords};
 pub use subscribers::{SubWord, SubWords};
+pub use word_list::WordList;

@@ -1,8 +1,8 @@
 //! Words that are cut at a byte, and values behind keys.
-ghost use Rattle.std.specs.Prelude.{◌≡◌, ◌==◌, ◌<◌, ⊤, [], ◌∷◌, IfOk, MatchOption, bytes_eq, count_by};
-ghost use Rattle.std.specs.Prelude.{length, nat_le, option_copied, position};
+ghost use Rattle.std.specs.Prelude.{◌≡◌, ◌==◌, ◌<◌, ⊤, true, false, [], ◌∷◌, IfOk, MatchOption, bytes_eq};
+ghost use Rattle.std.specs.Prelude.{count_by, length, nat_le, option_copied, position};
 ghost use Rattle.std.specs.List.{list_all, list_any, slice_split};
-ghost use Rattle.relay_words.specs.Parts.{has_key, is_keyed, part_value, value_of};
+ghost use Rattle.relay_words.specs.Parts.{between_commas, has_key, is_keyed, part_value, value_of};
 
 use std::alloc::{AllocError, Global};
 use std::marker::Model;
@@ -82,9 +82,56 @@ pub(crate) fn cut<'a>(alloc: Global, w: &'a [u8], byte: u8) -> Result<Vec<Part<'
     }
 }
 
+/// A word that names a kind, and behind commas has parts, each a key with its value. Contracts see both.
+#[derive(Drop)]
+pub(crate) struct Kinded<'a> {
+    kind: &'a [u8],
+    parts: Vec<Part<'a>>,
+}
+
+impl<'a> Model for Kinded<'a> {
+    ghost use Rattle.relay_words.specs.Parts.{OfKind};
+
+    ghost Value = { OfKind };
+
+    ghost view = { λ w. record { kind = w.kind.now; parts = w.parts.items } };
+}
+
+impl<'a> Kinded<'a> {
+    /// Any word is one. One allocation for each doubling of the number of parts.
+    pub(crate) fn new(alloc: Global, w: &'a [u8]) -> Result<Kinded<'a>, AllocError>
+        ensures { IfOk result (λ word. between_commas w.now ≡ word.kind ∷ word.parts) }
+    {
+        let (kind, rest) = cut_once(w, b',');
+        let parts = match rest {
+            None => Vec::new(alloc),
+            Some(rest) => cut(alloc, rest, b',')?,
+        };
+        Ok(Kinded { kind, parts })
+    }
+
+    pub(crate) fn is(&self, kind: &[u8]) -> bool
+        ensures { result ≡ bytes_eq self.now.kind kind.now }
+    {
+        self.kind == kind
+    }
+
+    /// The parts, where each has one of the keys, and no key comes twice.
+    pub(crate) fn keyed(&self, keys: &[Part]) -> Option<&[Part<'a>]>
+        ensures { MatchOption result (is_keyed keys.now self.now.parts ≡ false)
+            (λ parts. (is_keyed keys.now self.now.parts ≡ true) × (parts.now ≡ self.now.parts)) }
+    {
+        if is_keyed(&self.parts, keys) {
+            Some(&self.parts)
+        } else {
+            None
+        }
+    }
+}
+
 // Whether each part has one of the keys, and no key comes twice.
 #[tactic(auto, unfolding(crate::specs::Parts::is_keyed))]
-pub(crate) fn is_keyed(parts: &[Part], keys: &[Part]) -> bool
+fn is_keyed(parts: &[Part], keys: &[Part]) -> bool
     ensures { result ≡ is_keyed keys.now parts.now }
 {
     each_has_a_key(parts, keys) && no_key_twice(parts, keys)

@@ -10,11 +10,12 @@ use crate::faults::{UsageKind, WordFault, usage};
 use crate::items::{Item, read_items};
 use crate::kinds::first_fault;
 use crate::order::Order;
-use crate::subscribers::{SubWord, SubWords};
+use crate::subscribers::SubWord;
 use crate::values::{
     block_of, cap_of, codec_given, drops_slow, input_of, limit_of, n_given, option_in, out_given,
     stages_given, subs_given, written_as,
 };
+use crate::word_list::WordList;
 use frame_head::{Codec, Out, longest, most_in_field};
 use std::alloc::{AllocError, Global};
 
@@ -151,7 +152,7 @@ fn relay_by(
         drop_slow: drops_slow(items),
         limit: limit_of(items),
         input,
-        subs: SubWords::of(subs),
+        subs: WordList::of(subs),
     }))
 }
 

@@ -1,11 +1,11 @@
 //! Words for stages.
-ghost use Rattle.std.specs.Prelude.{◌≡◌, ◌==◌, ◌<◌, [], Some, IfOk, length, slice_get};
+ghost use Rattle.std.specs.Prelude.{◌≡◌, IfOk};
 ghost use Rattle.relay_words.specs.Stages.{stage_bytes, stage_of, stages_of};
 
 use crate::numbers::number_in;
 use crate::parts::{cut, part_value};
+use crate::word_list::WordList;
 use std::alloc::{AllocError, Global};
-use std::marker::Model;
 
 /// What a stage does to each frame. Sizes are in bytes, at most 16,777,216.
 #[derive(Clone, Copy, Debug, PartialEq, Eq)]
@@ -22,52 +22,8 @@ pub enum StageWord {
 
 const MOST_STAGES: usize = 16;
 
-/// Stages in order, at most 16. Contracts see them as a list.
-#[derive(Debug, Drop)]
-pub struct StageWords {
-    list: Vec<StageWord>,
-}
-
-impl Model for StageWords {
-    ghost use Rattle.std.specs.Prelude.{List};
-    ghost use Rattle.relay_words.specs.declared.stages.StageWord.{StageWord};
-
-    ghost Value = { List StageWord };
-
-    ghost view = { λ s. s.list.items };
-}
-
-impl StageWords {
-    /// It takes no memory.
-    pub fn len(&self) -> usize
-        ensures { result ≡ length self.now }
-    {
-        self.list.len()
-    }
-
-    /// Whether there are no stages.
-    pub fn is_empty(&self) -> bool
-        ensures { result ≡ (length self.now == 0) }
-    {
-        self.list.is_empty()
-    }
-
-    /// It takes no memory and is O(1).
-    pub fn get(&self, i: usize) -> &StageWord
-        requires { i < length self.now }
-        ensures { slice_get self.now i ≡ Some result.now }
-    {
-        &self.list[i]
-    }
-
-    pub(crate) fn none(alloc: Global) -> StageWords
-        ensures { result ≡ [] }
-    {
-        StageWords {
-            list: Vec::new(alloc),
-        }
-    }
-}
+/// Stages in order, at most 16.
+pub type StageWords = WordList<StageWord>;
 
 /// One to 16 stages, joined by `+`.
 pub(crate) fn read_stages(alloc: Global, w: &[u8]) -> Result<Option<StageWords>, AllocError>
@@ -84,7 +40,7 @@ pub(crate) fn read_stages(alloc: Global, w: &[u8]) -> Result<Option<StageWords>,
         };
         list.push(stage)?;
     }
-    Ok(Some(StageWords { list }))
+    Ok(Some(WordList::of(list)))
 }
 
 fn stage_of(w: &[u8]) -> Option<StageWord>

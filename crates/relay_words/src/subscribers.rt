@@ -1,5 +1,5 @@
 //! Words for subscribers.
-ghost use Rattle.std.specs.Prelude.{◌≡◌, ◌==◌, ◌<◌, ◌≤◌, Some, IfOk, length, slice_get};
+ghost use Rattle.std.specs.Prelude.{◌≡◌, ◌≤◌, IfOk, length};
 ghost use Rattle.std.specs.Option.{is_some};
 ghost use Rattle.relay_words.specs.Subscribers.{before, from, is_sub, name_part, ordered, places_of};
 ghost use Rattle.relay_words.specs.Subscribers.{range_of, same_name, sub_of, sub_places};
@@ -7,8 +7,8 @@ ghost use Rattle.relay_words.specs.Subscribers.{range_of, same_name, sub_of, sub
 use crate::name::{Name, is_name};
 use crate::numbers::number;
 use crate::parts::{part_value, place_of};
+use crate::word_list::WordList;
 use std::alloc::{AllocError, Global};
-use std::marker::Model;
 
 /// A subscriber: its name, and its places from `first` up to and without `until`, or to the end.
 #[derive(Debug, Drop)]
@@ -18,50 +18,8 @@ pub struct SubWord {
     pub until: Option<u64>,
 }
 
-/// Subscribers in order, at least one and at most 64, whose names differ. Contracts see them as a list.
-#[derive(Debug, Drop)]
-pub struct SubWords {
-    list: Vec<SubWord>,
-}
-
-impl Model for SubWords {
-    ghost use Rattle.std.specs.Prelude.{List};
-    ghost use Rattle.relay_words.specs.declared.subscribers.SubWord.{SubWord};
-
-    ghost Value = { List SubWord };
-
-    ghost view = { λ s. s.list.items };
-}
-
-impl SubWords {
-    /// It takes no memory.
-    pub fn len(&self) -> usize
-        ensures { result ≡ length self.now }
-    {
-        self.list.len()
-    }
-
-    /// Whether there are no subscribers.
-    pub fn is_empty(&self) -> bool
-        ensures { result ≡ (length self.now == 0) }
-    {
-        self.list.is_empty()
-    }
-
-    /// It takes no memory and is O(1).
-    pub fn get(&self, i: usize) -> &SubWord
-        requires { i < length self.now }
-        ensures { slice_get self.now i ≡ Some result.now }
-    {
-        &self.list[i]
-    }
-
-    pub(crate) fn of(list: Vec<SubWord>) -> SubWords
-        ensures { result ≡ list.items }
-    {
-        SubWords { list }
-    }
-}
+/// Subscribers in order, at least one and at most 64, whose names differ.
+pub type SubWords = WordList<SubWord>;
 
 /// A subscriber of this word, where it has the form of one. One allocation.
 pub(crate) fn read_sub(alloc: Global, w: &[u8]) -> Result<Option<SubWord>, AllocError>

@@ -19,6 +19,7 @@ use crate::numbers::number_in;
 use crate::outs::read_out;
 use crate::stages::{StageWords, read_stages};
 use crate::subscribers::{SubWord, name_part, read_sub};
+use crate::word_list::WordList;
 use frame_head::{Codec, Out, check, check_out};
 use std::alloc::{AllocError, Global};
 
@@ -104,10 +105,10 @@ pub(crate) fn stages_given(alloc: Global, items: &[Item]) -> Result<StageWords, 
     ensures { IfOk result (λ s. s ≡ stages_given items.now) }
 {
     let Some(w) = value_in(items, b"--stages") else {
-        return Ok(StageWords::none(alloc));
+        return Ok(WordList::none(alloc));
     };
     match read_stages(alloc, w)? {
-        None => Ok(StageWords::none(alloc)),
+        None => Ok(WordList::none(alloc)),
         Some(stages) => Ok(stages),
     }
 }
