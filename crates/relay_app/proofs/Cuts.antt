@@ -19,7 +19,7 @@ use Rattle.relay_app.specs.declared.stream_fault.StreamFault.{StreamFault}
 use Rattle.relay_app.specs.Cutting.{Cutting, HasUnits, HasCut, TakesUnits, Closes, is_end, status_at, unprinted}
 use Rattle.relay_app.specs.Framing.{framing, units_read}
 use Rattle.relay_app.specs.Noting.{fault_after, first_fault}
-use Rattle.relay_app.specs.Runs.{Reports, ReportsPart}
+use Rattle.relay_app.specs.Reports.{Reports, ReportsPart, report_status}
 use Rattle.relay_app.specs.Text.{unit_line, unit_lines, end_line}
 use Rattle.relay_app.proofs.Noted.{fault_after-append, fault_after_nothing, first_fault-append}
 use Rattle.relay_app.proofs.Texts.{lines-append}
@@ -156,12 +156,12 @@ module _ {D : Type 0} {state : D → Decoding} {stands : D → List ℕ → Type
 -- the report was closed
 pub closed_on : (codec : Codec) {w : SinkState} (h : List ℕ) {D : Type 0} {c : Cutting D} {v u : SinkState} {p : Waiting} (stop : Stop) {status : Status}
     → HasUnits w (units_read codec h (is_end stop)) c v → PrintsTo (end_line (length h)) (outlet c.waiting v) (outlet p u) → (p.failed ≡ false → p.text ≡ [])
-    → status ≡ status_at stop c.fault p.failed → Closes (framing codec) stop h w u status
+    → status ≡ status_at stop c.fault (report_status p.failed) → Closes (framing codec) stop h w u status
 closed_on codec {w} h {D} {c} {v} {u} {p} stop {status} has last empty named =
     inl (record {
       failed = p.failed;
       reports = all_reported (prints_both has.printed last) empty;
-      named = named ∙ ap (λ f. status_at stop f p.failed) has.noted;
+      named = named ∙ ap (λ f. status_at stop f (report_status p.failed)) has.noted;
     })
 
 pub at_err : {T E : Type 0} (r : Result T E) {P : Type 0} → true ≡ is_err r → OnErr r P → P

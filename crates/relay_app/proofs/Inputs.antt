@@ -23,9 +23,11 @@ use Rattle.input_pieces.specs.declared.reader.NoPiece.TheVariants.{Stopped, NoMe
 use Rattle.input_pieces.specs.Pieces.{Reading, HasRead, ReadsNone, ReadsSoFar, ReadsTo, new_reading, stop_behind}
 use Rattle.relay_app.specs.declared.status.Status.{Status}
 use Rattle.relay_app.specs.declared.status.Status.TheVariants as status
-use Rattle.relay_app.specs.Cutting.{Cutting, HasCut, Interrupted, IsStopOf, Closes, is_end, status_at}
+use Rattle.relay_app.specs.Cutting.{Cutting, HasCut, Interrupted, IsStopOf, Closes, ReadsAndReports, is_end, status_at}
 use Rattle.relay_app.specs.Framing.{framing}
-use Rattle.relay_app.specs.Runs.{Command, Completed, Starved, Reports, ReportsPart, ReadsInput, is_whole, none_left, status_of, stream_or, text_of}
+use Rattle.relay_app.specs.Inputs.{intake, is_whole, none_left, status_of, stream_or}
+use Rattle.relay_app.specs.Reports.{Reports, ReportsPart, report_status}
+use Rattle.relay_app.specs.Runs.{Command, ReportsText, fault_in, text_of}
 use Rattle.relay_app.specs.Text.{unit_lines}
 use Rattle.relay_app.proofs.Cuts.{part_reported, same_part, text_from}
 
@@ -106,7 +108,7 @@ told_of s t bytes fresh is = by s.given fresh.0 t.given is
     by (Some ys) none b e = let P : Option (List ℕ) → Type 0 = λ o. IfSome o (λ xs. xs ≡ bytes) in subst P (sym e) (ap (λ y. y ++ bytes) none)
 
 -- the whole input was read
-whole_at_end : (limit : ℕ) (given : List ℕ) (t : SourceState) → t.faults ≡ 0 → length given ≤ limit → IsAtEnd t → is_whole limit given t ≡ true
+whole_at_end : (limit : ℕ) (given : List ℕ) (t : SourceState) → t.faults ≡ 0 → length given ≤ limit → IsAtEnd t → is_whole (intake limit given t) ≡ true
 whole_at_end limit given t none within at_end = by (t.faults == 0) (nat_le (length given) limit) t.left (rw none refl) (le-leb (length given) limit within) at_end
   where
     by : (a b : Bool) (left : Option (List ℕ)) → a ≡ true → b ≡ true → IfSome left (λ xs. xs ≡ []) → ((a && b) && none_left left) ≡ true
@@ -120,17 +122,17 @@ not_whole true true d (inl h) = absurd (cc h)
 not_whole true true d (inr h) = absurd (cc h)
 
 -- the report and the status of a run are those of where its reading stopped
-record Agrees (c : Command) (limit : ℕ) (stop : Stop) (h given : List ℕ) (t : SourceState) : Type 0 where
-  pub text_is : c.text h (is_end stop) ≡ text_of c limit given t
-  pub status_is : (failed : Bool) → status_at stop (c.fault h (is_end stop)) failed ≡ status_of c limit given t failed
+pub record Agrees (c : Command) (limit : ℕ) (stop : Stop) (h given : List ℕ) (t : SourceState) : Type 0 where
+  pub text_is : c.text h (is_end stop) ≡ text_of c (intake limit given t)
+  pub status_is : (next : Status) → status_at stop (c.fault h (is_end stop)) next ≡ status_of (intake limit given t) (fault_in c (intake limit given t)) next
   pub most : length given ≤ limit + 1
   pub to_end : t.faults ≡ 0 → length given ≤ limit → IsAtEnd t
 
-same_text : (c : Command) (limit : ℕ) (whole : Bool) (h given : List ℕ) (t : SourceState) → take limit given ≡ h → is_whole limit given t ≡ whole → c.text h whole ≡ text_of c limit given t
-same_text c limit whole h given t read is = sym (ap (λ r. c.text r (is_whole limit given t)) read ∙ ap (λ b. c.text h b) is)
+same_text : (c : Command) (limit : ℕ) (whole : Bool) (h given : List ℕ) (t : SourceState) → take limit given ≡ h → is_whole (intake limit given t) ≡ whole → c.text h whole ≡ text_of c (intake limit given t)
+same_text c limit whole h given t read is = sym (ap (λ r. c.text r (is_whole (intake limit given t))) read ∙ ap (λ b. c.text h b) is)
 
-same_fault : (c : Command) (limit : ℕ) (whole : Bool) (h given : List ℕ) (t : SourceState) → take limit given ≡ h → is_whole limit given t ≡ whole → c.fault h whole ≡ c.fault (take limit given) (is_whole limit given t)
-same_fault c limit whole h given t read is = sym (ap (λ r. c.fault r (is_whole limit given t)) read ∙ ap (λ b. c.fault h b) is)
+same_fault : (c : Command) (limit : ℕ) (whole : Bool) (h given : List ℕ) (t : SourceState) → take limit given ≡ h → is_whole (intake limit given t) ≡ whole → c.fault h whole ≡ c.fault (take limit given) (is_whole (intake limit given t))
+same_fault c limit whole h given t read is = sym (ap (λ r. c.fault r (is_whole (intake limit given t))) read ∙ ap (λ b. c.fault h b) is)
 
 -- the first of the statuses
 not_first : (a b : Bool) (x y : Status) → a ≡ false → b ≡ false → x ≡ y → x ≡ (if a then status.Source else if b then status.Limit else y)
@@ -142,13 +144,13 @@ is_source a y e = rw e refl
 is_limit : (a b : Bool) (y : Status) → a ≡ false → b ≡ true → status.Limit ≡ (if a then status.Source else if b then status.Limit else y)
 is_limit a b y p q = rw (p, q) refl
 
-agrees_end : (c : Command) (limit : ℕ) (h : List ℕ) (t : SourceState) → t.faults ≡ 0 → length h ≤ limit → IsAtEnd t → Agrees c limit End h h t
+pub agrees_end : (c : Command) (limit : ℕ) (h : List ℕ) (t : SourceState) → t.faults ≡ 0 → length h ≤ limit → IsAtEnd t → Agrees c limit End h h t
 agrees_end c limit h t none within at_end =
     let read : take limit h ≡ h = take_all limit h within in
-    let whole : is_whole limit h t ≡ true = whole_at_end limit h t none within at_end in
+    let whole : is_whole (intake limit h t) ≡ true = whole_at_end limit h t none within at_end in
     record {
       text_is = same_text c limit true h h t read whole;
-      status_is = λ failed. not_first (nat_lt 0 t.faults) (nat_lt limit (length h)) _ _ (rw none refl) (le-ltb limit (length h) within) (ap (λ f. stream_or (if failed then status.Report else status.Fine) f) (same_fault c limit true h h t read whole));
+      status_is = λ next. not_first (nat_lt 0 t.faults) (nat_lt limit (length h)) _ _ (rw none refl) (le-ltb limit (length h) within) (ap (λ f. stream_or next f) (same_fault c limit true h h t read whole));
       most = omega (arith, within);
       to_end = λ _ _. at_end;
     }
@@ -156,11 +158,11 @@ agrees_end c limit h t none within at_end =
 agrees_failure : (c : Command) (limit : ℕ) (h : List ℕ) (t : SourceState) → 0 < t.faults → length h ≤ limit → Agrees c limit Failure h h t
 agrees_failure c limit h t some within =
     let read : take limit h ≡ h = take_all limit h within in
-    let whole : is_whole limit h t ≡ false = not_whole (t.faults == 0) (nat_le (length h) limit) (none_left t.left) (inl (ne_eqb t.faults 0 (λ q. omega (arith, q, some)))) in
+    let whole : is_whole (intake limit h t) ≡ false = not_whole (t.faults == 0) (nat_le (length h) limit) (none_left t.left) (inl (ne_eqb t.faults 0 (λ q. omega (arith, q, some)))) in
     let first : nat_lt 0 t.faults ≡ true = lt-ltb 0 t.faults some in
     record {
       text_is = same_text c limit false h h t read whole;
-      status_is = λ failed. is_source (nat_lt 0 t.faults) _ first;
+      status_is = λ next. is_source (nat_lt 0 t.faults) _ first;
       most = omega (arith, within);
       to_end = λ none _. absurd (omega (arith, none, some));
     }
@@ -169,37 +171,39 @@ agrees_limit : (c : Command) (limit : ℕ) (h : List ℕ) (x : ℕ) (t : SourceS
 agrees_limit c limit h x t none full =
     let long : length (h ++ x ∷ []) ≡ limit + 1 = omega (arith, length-append h (x ∷ []), full) in
     let read : take limit (h ++ x ∷ []) ≡ h = ap (λ n. take n (h ++ x ∷ [])) (sym full) ∙ take-append_seam h (x ∷ []) in
-    let whole : is_whole limit (h ++ x ∷ []) t ≡ false = not_whole (t.faults == 0) (nat_le (length (h ++ x ∷ [])) limit) (none_left t.left) (inr (lt-leb (length (h ++ x ∷ [])) limit (omega (arith, long)))) in
+    let whole : is_whole (intake limit (h ++ x ∷ []) t) ≡ false = not_whole (t.faults == 0) (nat_le (length (h ++ x ∷ [])) limit) (none_left t.left) (inr (lt-leb (length (h ++ x ∷ [])) limit (omega (arith, long)))) in
     record {
       text_is = same_text c limit false h (h ++ x ∷ []) t read whole;
-      status_is = λ failed. is_limit (nat_lt 0 t.faults) (nat_lt limit (length (h ++ x ∷ []))) _ (rw none refl) (lt-ltb limit (length (h ++ x ∷ [])) (omega (arith, long)));
+      status_is = λ next. is_limit (nat_lt 0 t.faults) (nat_lt limit (length (h ++ x ∷ []))) _ (rw none refl) (lt-ltb limit (length (h ++ x ∷ [])) (omega (arith, long)));
       most = omega (arith, long);
       to_end = λ _ within. absurd (omega (arith, within, long));
     }
 
 -- a run that ends as its reading stopped
 run_from : {c : Command} {limit : ℕ} {stop : Stop} {h given : List ℕ} (s t : SourceState) {w v : SinkState} {status : Status}
-    → IsFreshSource s → t.given ≡ grown s.given given → t.after ≡ s.after → Agrees c limit stop h given t → Closes c stop h w v status → ReadsInput c limit t w v status
-run_from {c} {limit} {stop} {h} {given} s t {w} {v} {status} fresh gave after a closes = record {
-  given = given;
-  told = told_of s t given fresh gave;
-  most = a.most;
-  after = after ∙ fresh.2;
-  to_end = λ none within. inr (a.to_end none within);
-  ends = by closes;
-}
+    → IsFreshSource s → t.given ≡ grown s.given given → t.after ≡ s.after → Agrees c limit stop h given t → Closes c stop h w v status → ReadsAndReports c limit t w v status
+run_from {c} {limit} {stop} {h} {given} s t {w} {v} {status} fresh gave after a closes = (
+  given,
+  record {
+    told = told_of s t given fresh gave;
+    most = a.most;
+    after = after ∙ fresh.2;
+    to_end = λ none within. inr (a.to_end none within);
+  },
+  by closes,
+)
   where
-    by : Closes c stop h w v status → Completed (text_of c limit given t) (status_of c limit given t) w v status ⊎ Starved (text_of c limit given t) w v status
+    by : Closes c stop h w v status → ReportsText c (intake limit given t) w v status
     by (inl done) = let R : List ℕ → Type 0 = λ x. Reports done.failed x w v in inl (record {
       failed = done.failed;
       reports = subst R a.text_is done.reports;
-      named = done.named ∙ a.status_is done.failed;
+      named = done.named ∙ a.status_is (report_status done.failed);
     })
     by (inr part) = inr (record { part = same_part a.text_is part.part; memory = part.memory })
 
 -- an input was read as far as it went, and the report was closed
 pub closing : (c : Command) (block limit : ℕ) (stop : Stop) (h : List ℕ) (s t : SourceState) {w v : SinkState} {status : Status}
-    → IsFreshSource s → ReadsTo block limit stop h s t → Closes c stop h w v status → ReadsInput c limit t w v status
+    → IsFreshSource s → ReadsTo block limit stop h s t → Closes c stop h w v status → ReadsAndReports c limit t w v status
 closing c block limit End h s t {w} {v} {status} fresh r closes =
     run_from s t fresh (ap (λ (x : SourceState). x.given) r.0.state) (r.0.after fresh.1)
     (agrees_end c limit h t (ap (λ (x : SourceState). x.faults) r.0.state ∙ fresh.1) r.2 r.1) closes
@@ -211,37 +215,35 @@ closing c block limit Limit h s t {w} {v} {status} fresh r closes =
     (agrees_limit c limit h r.0 t (ap (λ (x : SourceState). x.faults) r.1.state ∙ fresh.1) r.2) closes
 
 -- memory was refused before the first read
-pub starved_at_once : (c : Command) (limit : ℕ) (t : SourceState) (w : SinkState) → IsFreshSource t → ReadsInput c limit t w w status.Memory
-starved_at_once c limit t w fresh = record {
-  given = [];
-  told = fresh.0;
-  most = omega arith;
-  after = fresh.2;
-  to_end = λ _ _. inl refl;
-  ends = inr (record {
-    part = record { front = []; lost = text_of c limit [] t; both = refl; failed = false; reports = wrote_nothing w };
+pub starved_at_once : (c : Command) (limit : ℕ) (t : SourceState) (w : SinkState) → IsFreshSource t → ReadsAndReports c limit t w w status.Memory
+starved_at_once c limit t w fresh = (
+  [],
+  record { told = fresh.0; most = omega arith; after = fresh.2; to_end = λ _ _. inl refl },
+  inr (record {
+    part = record { front = []; lost = text_of c (intake limit [] t); both = refl; failed = false; reports = wrote_nothing w };
     memory = refl;
-  });
-}
+  }),
+)
 
 -- memory was refused later
 pub starved_on : (codec : Codec) {block limit : ℕ} (s : SourceState) {t : SourceState} {w v : SinkState} → StableUnits → fault_of codec ≡ None
-    → IsFreshSource s → Interrupted codec block limit s t w v → ReadsInput (framing codec) limit t w v status.Memory
+    → IsFreshSource s → Interrupted codec block limit s t w v → ReadsAndReports (framing codec) limit t w v status.Memory
 starved_on codec {block} {limit} s {t} {w} {v} stable checked fresh i =
     let given : List ℕ = i.h ++ i.more in
     let read : take limit given ≡ given = take_all limit given i.within in
-    let longer = text_from codec i.h given (is_whole limit given t) (stable codec checked i.h i.more).1 in
-    record {
-      given = given;
-      told = told_of s t given fresh (gave i.read);
-      most = omega (arith, i.within);
-      after = silent i.read ∙ fresh.2;
-      to_end = λ _ _. inl refl;
-      ends = inr (record {
-        part = same_part (longer.1 ∙ same_text (framing codec) limit (is_whole limit given t) given given t read refl) (more longer.0);
+    let longer = text_from codec i.h given (is_whole (intake limit given t)) (stable codec checked i.h i.more).1 in (
+      given,
+      record {
+        told = told_of s t given fresh (gave i.read);
+        most = omega (arith, i.within);
+        after = silent i.read ∙ fresh.2;
+        to_end = λ _ _. inl refl;
+      },
+      inr (record {
+        part = same_part (longer.1 ∙ same_text (framing codec) limit (is_whole (intake limit given t)) given given t read refl) (more longer.0);
         memory = refl;
-      });
-    }
+      }),
+    )
   where
     gave : Read block (i.h ++ i.more) s t ⊎ ReadFailing block (i.h ++ i.more) s t → t.given ≡ grown s.given (i.h ++ i.more)
     gave (inl r) = ap (λ (x : SourceState). x.given) r.state

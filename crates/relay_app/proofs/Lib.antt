@@ -4,3 +4,4 @@ pub mod Cuts
 pub mod Inputs
 pub mod Hosts
 pub mod Nodes
+pub mod Complete

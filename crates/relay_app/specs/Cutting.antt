@@ -1,5 +1,5 @@
 -- A stream that is being cut, and what comes of it.
-use Rattle.std.specs.Prelude.{◌≡◌, ◌⊎◌, ℕ, ◌≤◌, Bool, true, false, List, [], ◌∷◌, ◌++◌, Option, Result, Ok, Err, length, if◌then◌else◌}
+use Rattle.std.specs.Prelude.{◌≡◌, ◌⊎◌, ℕ, ◌≤◌, Bool, true, false, List, [], ◌∷◌, ◌++◌, Option, Result, Ok, Err, length}
 use Rattle.frame_head.specs.declared.codecs.Codec.{Codec}
 use Rattle.frame_head.specs.Heads.{FramingUnit}
 use Rattle.frame_head.specs.Units.{units}
@@ -17,7 +17,9 @@ use Rattle.relay_app.specs.declared.status.Status.TheVariants as status
 use Rattle.relay_app.specs.declared.stream_fault.StreamFault.{StreamFault}
 use Rattle.relay_app.specs.Framing.{framing, units_read}
 use Rattle.relay_app.specs.Noting.{fault_after, first_fault}
-use Rattle.relay_app.specs.Runs.{Command, Ends, ReportsPart, stream_or}
+use Rattle.relay_app.specs.Inputs.{ReadsInput, intake, stream_or}
+use Rattle.relay_app.specs.Reports.{Ends, ReportsPart, report_status}
+use Rattle.relay_app.specs.Runs.{Command, ReportsText}
 use Rattle.relay_app.specs.Text.{unit_lines}
 
 abbrev pub is_end : Stop → Bool
@@ -58,11 +60,11 @@ pub record Interrupted (codec : Codec) (block limit : ℕ) (s t : SourceState) (
   pub within : length (h ++ more) ≤ limit
   pub part : ReportsPart (unit_lines (units codec h)) w v
 
--- the status of a reading that stopped so
-abbrev pub status_at : Stop → Option StreamFault → Bool → Status
-status_at End fault report_failed = stream_or (if report_failed then status.Report else status.Fine) fault
-status_at Failure fault report_failed = status.Source
-status_at Limit fault report_failed = status.Limit
+-- the status of a reading that stopped so, with this first fault, and what comes behind it
+abbrev pub status_at : Stop → Option StreamFault → Status → Status
+status_at End fault next = stream_or next fault
+status_at Failure fault next = status.Source
+status_at Limit fault next = status.Limit
 
 -- why a reading stopped, from why there was no piece: but for want of memory
 abbrev pub IsStopOf : {E : Type 0} → NoPiece → Result Stop E → Type 0
@@ -73,7 +75,12 @@ IsStopOf _ _ = ⊥
 -- the report was closed behind the bytes `h`, where the reading stopped so
 abbrev pub Closes : Command → Stop → List ℕ → SinkState → SinkState → Status → Type 0
 Closes c stop h w v status =
-    Ends (c.text h (is_end stop)) (status_at stop (c.fault h (is_end stop))) w v status
+    Ends (c.text h (is_end stop)) (λ failed. status_at stop (c.fault h (is_end stop)) (report_status failed)) w v status
+
+-- an input that was never called before was read and left in the state `t`, and the report of what was read written
+abbrev pub ReadsAndReports : Command → ℕ → SourceState → SinkState → SinkState → Status → Type 0
+ReadsAndReports c limit t w v status =
+    (given : List ℕ) × ReadsInput (intake limit given t) status × ReportsText c (intake limit given t) w v status
 
 -- of cutters whose decoder is seen as `state` says, and was fed the bytes for which it stands
 module _ {D : Type 0} (state : D → Decoding) (stands : D → List ℕ → Type 0) where

@@ -1,4 +1,6 @@
 pub mod Text
+pub mod Inputs
+pub mod Reports
 pub mod Runs
 pub mod Noting
 pub mod Framing

@@ -1,98 +1,98 @@
--- A run over one input: its report and its status, from what the input gave, what it has left and how often it failed.
-use Rattle.std.specs.Prelude.{◌≡◌, ◌⊎◌, ℕ, ◌+◌, ◌≤◌, Bool, true, false, ◌&&◌, ◌==◌, nat_lt, nat_le, if◌then◌else◌}
-use Rattle.std.specs.Prelude.{List, [], ◌∷◌, ◌++◌, Option, Some, None, IfSome, length, take}
-use Rattle.std.specs.Bool.{MatchBool}
-use Rattle.relay_ports.specs.States.{SourceState, SinkState, HostState}
+-- A run over one input: what was read of it, what the command answers to that, and what the host is afterwards.
+use Rattle.std.specs.Prelude.{◌≡◌, ◌⊎◌, ℕ, ◌+◌, ◌≤◌, Bool, true, List, [], ◌∷◌, ◌++◌, Option, length, if◌then◌else◌}
+use Rattle.relay_ports.specs.States.{SourceState, SinkState, OutputEnd, HostState}
 use Rattle.relay_ports.specs.Calls.{Unopened}
+use Rattle.relay_ports.specs.Told.{counted}
 use Rattle.relay_ports.specs.declared.failures.NotOpened.TheVariants.{Failed}
-use Rattle.buffered_io.specs.Reading.{IsAtEnd}
-use Rattle.buffered_io.specs.Writing.{Wrote, Broke}
 use Rattle.relay_app.specs.declared.status.Status.{Status}
-use Rattle.relay_app.specs.declared.status.Status.TheVariants.{Fine, Stream, Source, NotOpened, Limit, Memory, Report}
+use Rattle.relay_app.specs.declared.status.Status.TheVariants.{NotOpened, Memory}
 use Rattle.relay_app.specs.declared.stream_fault.StreamFault.{StreamFault}
+use Rattle.relay_app.specs.Inputs.{Intake, ReadsInput, bytes_read, intake, is_whole, status_of, stream_or}
+use Rattle.relay_app.specs.Reports.{Completed, Ends, report_status}
 
--- what a command makes of the bytes that it read, and of whether these are the whole input:
--- the text of its report, and the first fault in them
-pub record Command : Type 0 where
-  pub text : List ℕ → Bool → List ℕ
-  pub fault : List ℕ → Bool → Option StreamFault
+-- what a run did beside reading its input and writing its report: the outputs that it made and finished, in order, and
+-- how often it was lent a block; each block came back
+pub record Effects : Type 0 where
+  pub outputs : List OutputEnd
+  pub lends : ℕ
 
--- nothing is known to be left
-abbrev pub none_left : Option (List ℕ) → Bool
-none_left None = true
-none_left (Some []) = true
-none_left (Some (x ∷ xs)) = false
+abbrev pub no_effects : Effects
+no_effects = record { outputs = []; lends = 0 }
 
--- the bytes up to the limit are the whole input: no call failed, no more than the limit was there, and nothing is left
-abbrev pub is_whole : ℕ → List ℕ → SourceState → Bool
-is_whole limit given t = (t.faults == 0) && nat_le (length given) limit && none_left t.left
+-- a count of failures, with one more for each output whose finishing failed
+abbrev pub with_finishings : List OutputEnd → ℕ → ℕ
+with_finishings [] faults = faults
+with_finishings (o ∷ os) faults = with_finishings os (if o.failed then counted faults else faults)
 
--- the report of a run whose input gave these bytes and was left in this state
-abbrev pub text_of : Command → ℕ → List ℕ → SourceState → List ℕ
-text_of c limit given t = c.text (take limit given) (is_whole limit given t)
-
--- the status of a fault, or another where there is none
-abbrev pub stream_or : Status → Option StreamFault → Status
-stream_or other None = other
-stream_or other (Some f) = Stream f.at f.kind
-
--- the status of a run that came to its end: the first that holds of a failed input, more than the limit,
--- a fault in what was read, and a failed report
-abbrev pub status_of : Command → ℕ → List ℕ → SourceState → Bool → Status
-status_of c limit given t report_failed =
-    if nat_lt 0 t.faults then Source
-    else if nat_lt limit (length given) then Limit
-    else stream_or (if report_failed then Report else Fine) (c.fault (take limit given) (is_whole limit given t))
-
--- a text was written, or its front where the sink failed
-abbrev pub Reports : Bool → List ℕ → SinkState → SinkState → Type 0
-Reports failed text w v = MatchBool failed (Broke text w v) (Wrote text w v)
-
--- the front of a text was written, or the front of that where the sink failed
-pub record ReportsPart (text : List ℕ) (w v : SinkState) : Type 0 where
-  pub front : List ℕ
-  pub lost : List ℕ
-  pub both : text ≡ front ++ lost
-  pub failed : Bool
-  pub reports : Reports failed front w v
-
--- a run came to its end, with this report and the status that belongs to whether the report failed
-pub record Completed (text : List ℕ) (named_by : Bool → Status) (w v : SinkState) (status : Status) : Type 0 where
-  pub failed : Bool
-  pub reports : Reports failed text w v
-  pub named : status ≡ named_by failed
-
--- memory was refused, when the front of this report was printed
-pub record Starved (text : List ℕ) (w v : SinkState) (status : Status) : Type 0 where
-  pub part : ReportsPart text w v
-  pub memory : status ≡ Memory
-
--- a run came to its end, or memory was refused
-abbrev pub Ends : List ℕ → (Bool → Status) → SinkState → SinkState → Status → Type 0
-Ends text named_by w v status = Completed text named_by w v status ⊎ Starved text w v status
-
--- a run over an input that was never called before, and is left in the state `t`
-pub record ReadsInput (c : Command) (limit : ℕ) (t : SourceState) (w v : SinkState) (status : Status) : Type 0 where
-  pub given : List ℕ
-  pub told : IfSome t.given (λ xs. xs ≡ given)
-  -- one byte behind the limit was asked for at most
-  pub most : length given ≤ limit + 1
-  -- after a failure nothing more was read
-  pub after : t.after ≡ 0
-  -- where no call failed and no more than the limit was there, the input was read to its end, or memory was refused
-  pub to_end : t.faults ≡ 0 → length given ≤ limit → (status ≡ Memory) ⊎ IsAtEnd t
-  pub ends : Ends (text_of c limit given t) (status_of c limit given t) w v status
-
--- the input of this name was opened, read and finished; all else but the report stays
-pub record Finishes (c : Command) (name : List ℕ) (limit : ℕ) (h k : HostState) (status : Status) : Type 0 where
-  pub input : SourceState
-  pub state : k ≡ record h { inputs = h.inputs ++ record { name = name; state = input } ∷ []; report = k.report }
-  pub reads : ReadsInput c limit input h.report k.report status
+-- a host behind a run that finished the input of this name in this state, with its effects and its report; all else
+-- stays
+abbrev pub after_run : List ℕ → SourceState → Effects → SinkState → HostState → HostState
+after_run name t effects report h = record h {
+  faults = with_finishings effects.outputs h.faults;
+  inputs = h.inputs ++ record { name = name; state = t } ∷ [];
+  outputs = h.outputs ++ effects.outputs;
+  lends = h.lends + effects.lends;
+  report = report;
+}
 
 -- nothing was opened: the outside refused it, or memory was refused
 abbrev pub OpensNothing : List ℕ → HostState → HostState → Status → Type 0
 OpensNothing name h k status = ((status ≡ NotOpened 0) × Unopened Failed name h k) ⊎ ((status ≡ Memory) × (k ≡ h))
 
--- a run over the input of this name
-abbrev pub RunsInput : Command → List ℕ → ℕ → HostState → HostState → Status → Type 0
-RunsInput c name limit h k status = OpensNothing name h k status ⊎ Finishes c name limit h k status
+-- of commands by their answer to what was read: its effects, the report before and after, and the status
+module _ (answers : Intake → Effects → SinkState → SinkState → Status → Type 0) where
+  -- the input of this name was opened, read and finished, and the command answered so
+  pub record Finishes (name : List ℕ) (limit : ℕ) (h k : HostState) (status : Status) : Type 0 where
+    pub given : List ℕ
+    pub input : SourceState
+    pub reads : ReadsInput (intake limit given input) status
+    pub effects : Effects
+    pub state : k ≡ after_run name input effects k.report h
+    pub answered : answers (intake limit given input) effects h.report k.report status
+
+  -- a run over the input of this name
+  abbrev pub RunsInput : List ℕ → ℕ → HostState → HostState → Status → Type 0
+  RunsInput name limit h k status = OpensNothing name h k status ⊎ Finishes name limit h k status
+
+  -- unless memory was refused, a run whose input never failed and gave no more than the limit answers to all that it
+  -- gave, as the whole input
+  abbrev pub IsComplete : (List ℕ → Effects → SinkState → SinkState → Status → Type 0) → Type 0
+  IsComplete to_whole =
+      (i : Intake) (effects : Effects) (w v : SinkState) (status : Status)
+      → ReadsInput i status → i.input.faults ≡ 0 → length i.given ≤ i.limit
+      → answers i effects w v status → (status ≡ Memory) ⊎ to_whole i.given effects w v status
+
+-- a command whose report is a function of what was read: its text and the first fault, from the bytes that were read
+-- and from whether these are the whole input
+pub record Command : Type 0 where
+  pub text : List ℕ → Bool → List ℕ
+  pub fault : List ℕ → Bool → Option StreamFault
+
+-- the report of what was read
+abbrev pub text_of : Command → Intake → List ℕ
+text_of c i = c.text (bytes_read i) (is_whole i)
+
+-- the first fault in what was read
+abbrev pub fault_in : Command → Intake → Option StreamFault
+fault_in c i = c.fault (bytes_read i) (is_whole i)
+
+-- its report was written
+abbrev pub ReportsText : Command → Intake → SinkState → SinkState → Status → Type 0
+ReportsText c i w v status =
+    Ends (text_of c i) (λ failed. status_of i (fault_in c i) (report_status failed)) w v status
+
+-- such a command writes its report, and does nothing beside
+abbrev pub Answers : Command → Intake → Effects → SinkState → SinkState → Status → Type 0
+Answers c i effects w v status = (effects ≡ no_effects) × ReportsText c i w v status
+
+-- its answer to a whole input: the whole text, and the status of its first fault or of its report
+abbrev pub AnswersWhole : Command → List ℕ → Effects → SinkState → SinkState → Status → Type 0
+AnswersWhole c bytes effects w v status =
+    (effects ≡ no_effects)
+    × Completed (c.text bytes true) (λ failed. stream_or (report_status failed) (c.fault bytes true)) w v status
+
+-- a run of such a command that finished its input changed its host by that input and the report alone
+abbrev pub LeavesTheRest : Command → Type 0
+LeavesTheRest c =
+    (name : List ℕ) (limit : ℕ) (h k : HostState) (status : Status) (f : Finishes (Answers c) name limit h k status)
+    → k ≡ record h { inputs = h.inputs ++ record { name = name; state = f.input } ∷ []; report = k.report }

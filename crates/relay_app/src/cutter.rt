@@ -124,9 +124,7 @@ impl<D: Decoder> Cutter<D> {
         ensures codec { OnOk result ((D.state self.new.decoder).codec ≡ (D.state self.old.decoder).codec) }
         ensures same { self.new ≡ record self.old { decoder = self.new.decoder; held = 0 } }
     {
-        let Ok(piece) = Chain::of(alloc, block) else {
-            return Err(AllocError);
-        };
+        let piece = Chain::of(alloc, block);
         let mut haul = mem::replace(&mut self.haul, Haul::new(alloc));
         empty(&mut haul);
         let Ok(()) = self.decoder.feed(alloc, piece, &mut haul, &mut self.mint) else {
@@ -144,7 +142,7 @@ impl<D: Decoder> Cutter<D> {
         }
         print_end(&mut self.printer, report, self.read);
         self.printer.flush(report);
-        Status::at_stop(stop, self.fault, self.printer.failed())
+        Status::at_stop(stop, self.fault, Status::of_report(self.printer.failed()))
     }
 
     // Prints what the end of the stream adds, where it was reached.

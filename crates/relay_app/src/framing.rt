@@ -3,9 +3,9 @@ ghost use Rattle.frame_head.specs.Codecs.{fault_of};
 ghost use Rattle.frame_rule.specs.Decoding.{fresh};
 ghost use Rattle.relay_ports.specs.States.{IsFreshSource};
 ghost use Rattle.input_pieces.specs.Pieces.{HasRead};
-ghost use Rattle.relay_app.specs.Cutting.{CutsTo, HasCut, Interrupted, IsStopOf};
+ghost use Rattle.relay_app.specs.Cutting.{CutsTo, HasCut, Interrupted, IsStopOf, ReadsAndReports};
 ghost use Rattle.relay_app.specs.Framing.{framing};
-ghost use Rattle.relay_app.specs.Runs.{ReadsInput, RunsInput};
+ghost use Rattle.relay_app.specs.Runs.{Answers, RunsInput};
 
 use crate::cutter::Cutter;
 use crate::status::Status;
@@ -33,7 +33,7 @@ pub fn frames<H: Host>(
     requires codec { fault_of codec ≡ None }
     requires block { (1 ≤ block) × (block ≤ 1048576) }
     requires limit { limit ≤ 2 ^ 40 }
-    ensures { RunsInput (framing codec) name.now limit (H.state host.old) (H.state host.new) result }
+    ensures { RunsInput (Answers (framing codec)) name.now limit (H.state host.old) (H.state host.new) result }
 {
     frames_by(
         alloc,
@@ -58,7 +58,8 @@ fn frames_by<H: Host, D: Decoder>(
     requires kept { (D.state decoder).kept ≡ [] }
     requires block { (1 ≤ block) × (block ≤ 1048576) }
     requires limit { limit ≤ 2 ^ 40 }
-    ensures { RunsInput (framing (D.state decoder).codec) name.now limit (H.state host.old) (H.state host.new) result }
+    ensures { RunsInput (Answers (framing (D.state decoder).codec)) name.now limit
+        (H.state host.old) (H.state host.new) result }
 {
     let input = match host.open_in(name) {
         Ok(input) => input,
@@ -84,7 +85,7 @@ fn cut_input<S: Source, W: Sink, D: Decoder>(
     requires limit { reader.old.limit ≤ 2 ^ 40 }
     requires fresh { IsFreshSource (S.state reader.old.input) }
     requires unread { HasRead S.state reader.old.block reader.old.limit (S.state reader.old.input) [] reader.old }
-    ensures { ReadsInput (framing (D.state decoder).codec) reader.old.limit
+    ensures { ReadsAndReports (framing (D.state decoder).codec) reader.old.limit
         (S.state reader.new.input) (W.state report.old) (W.state report.new) result }
 {
     // For the proof alone: lines that were printed stay the first of the report when more is read.

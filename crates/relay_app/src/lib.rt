@@ -3,6 +3,7 @@
 
 mod cutter;
 mod framing;
+pub mod laws;
 mod run;
 mod status;
 mod stream_fault;

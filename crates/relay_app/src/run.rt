@@ -7,7 +7,7 @@ ghost use Rattle.relay_words.specs.declared.faults.WordFault.{WordFault};
 ghost use Rattle.relay_words.specs.declared.order.Order.{Order};
 ghost use Rattle.relay_app.specs.Framing.{framing};
 ghost use Rattle.relay_app.specs.Orders.{Refuses, refusal_of};
-ghost use Rattle.relay_app.specs.Runs.{RunsInput};
+ghost use Rattle.relay_app.specs.Runs.{Answers, RunsInput};
 
 use crate::framing::frames;
 use crate::status::Status;
@@ -34,7 +34,7 @@ pub fn run_plain<H: Host>(alloc: Global, host: &mut H, words: &[String]) -> Stat
         → Refuses word kind host.old host.new result }
     ensures frames { (codec : Codec) (block limit : ℕ) (input : List ℕ)
         → order (map (λ w. string_bytes w) words.now) ≡ Ok (Order.Frames codec block limit input)
-        → RunsInput (framing codec) input limit (H.state host.old) (H.state host.new) result }
+        → RunsInput (Answers (framing codec)) input limit (H.state host.old) (H.state host.new) result }
     ensures report_faults { (H.state host.old).report.faults ≤ (H.state host.new).report.faults }
 {
     let order = match read_words(alloc, words) {

@@ -31,18 +31,25 @@ pub enum Status {
 impl Status {
     ghost use Rattle.relay_app.specs.Statuses.{number_of};
     ghost use Rattle.relay_app.specs.Cutting.{status_at};
+    ghost use Rattle.relay_app.specs.Reports.{report_status};
 
-    // The status of a run whose reading stopped so, with the first fault in what was read.
-    pub(crate) fn at_stop(stop: Stop, fault: Option<StreamFault>, report_failed: bool) -> Status
-        ensures { result ≡ status_at stop fault report_failed }
+    // The status of a run whose reading stopped so: the first fault in what was read, or what comes behind that.
+    pub(crate) fn at_stop(stop: Stop, fault: Option<StreamFault>, next: Status) -> Status
+        ensures { result ≡ status_at stop fault next }
     {
         match (stop, fault) {
             (Stop::Failure, _) => Status::Source,
             (Stop::Limit, _) => Status::Limit,
             (Stop::End, Some(StreamFault { at, kind })) => Status::Stream { at, kind },
-            (Stop::End, None) if report_failed => Status::Report,
-            (Stop::End, None) => Status::Fine,
+            (Stop::End, None) => next,
         }
+    }
+
+    // The last status of all: whether the report failed.
+    pub(crate) fn of_report(failed: bool) -> Status
+        ensures { result ≡ report_status failed }
+    {
+        if failed { Status::Report } else { Status::Fine }
     }
 
     /// The number with which the program ends.

@@ -2,6 +2,7 @@ use Rattle.std.proofs.Common.{◌≡◌, ap, ◌∙◌, append-nil, subst, sym, 
 use Rattle.buffered_io.proofs.Prints.{prints_both, prints_same}
 use Rattle.relay_app.specs.Cutting.{Cutting, HasUnits, is_end, status_at}
 use Rattle.relay_app.specs.Framing.{units_read}
+use Rattle.relay_app.specs.Reports.{report_status}
 use Rattle.relay_app.specs.Text.{end_line}
 use Rattle.relay_app.proofs.Cuts.{closed_early, closed_on, at_err, at_ok}
 use Rattle.relay_app.proofs.cutter.Cutter.close.Goals as goal
@@ -19,4 +20,4 @@ returns g c =
     let has = at_ok c.end.result c.if-is_err.ensures.value c.end.ensures.ended codec w h s in
     let read : c.self.inside.read ≡ length h = ap (λ (x : Cutting _). x.read) c.self.view_is ∙ c.end.ensures.read ∙ s.read in
     closed_on codec h c.args.stop (subst U (sym c.self.view_is) has)
-    (prints_same (append-nil (end_line c.self.inside.read) ∙ ap end_line read) (prints_both c.print_end.ensures c.flush.ensures.prints)) c.flush.ensures.empty (c.at_stop.ensures ∙ ap (λ b. status_at c.args.stop c.self.inside.fault b) c.failed.ensures)
+    (prints_same (append-nil (end_line c.self.inside.read) ∙ ap end_line read) (prints_both c.print_end.ensures c.flush.ensures.prints)) c.flush.ensures.empty (c.at_stop.ensures ∙ ap (λ x. status_at c.args.stop c.self.inside.fault x) (c.of_report.ensures ∙ ap (λ b. report_status b) c.failed.ensures))
