@@ -26,6 +26,8 @@ EXCEPTIONS = {
     "HANDLES": "the file at the top, without an ending",
     "Threads": "a handle of the language", "Wait": "a handle of the language", "Net": "a handle of the language",
     "Drop": "a trait of the standard library", "Send": "a trait of the standard library",
+    "O_NONBLOCK": "a flag of the system", "From": "a trait of the standard library", "Other": "a kind of the standard library's errors",
+    "WriteZero": "a kind of the standard library's errors",
     "Sync": "a trait of the standard library", "Debug": "a trait of the standard library",
     "Display": "a trait of the standard library", "Error": "a trait of the standard library",
     "Arc": "a type of the standard library", "Vec": "a type of the standard library",
@@ -68,6 +70,7 @@ NO_NAME = [
 FN = re.compile(r"^\s*(?:pub(?:\([a-z]+\))? )?(?:unsafe )?fn (\w+)")
 BLOCK = re.compile(r"^(\s*)(?:pub(?:\([a-z]+\))? )?(?:unsafe )?(impl|trait|enum|struct)\b(.*)$")
 CLAUSE = re.compile(r"^\s*(?:requires|ensures)\*? (\w+) \{")
+ALIAS = re.compile(r"^pub type (\w+)(?:<.*>)? = (\w+)<")
 ITEM = re.compile(r"^\s*(?:pub(?:\([a-z]+\))? )?(?:mod|type|const|static) (\w+)")
 GHOST = re.compile(r"^\s*(?:pub )?ghost (?:also_)?(\w+)\s*[:=]")
 FIELD = re.compile(r"^\s+(?:pub(?:\([a-z]+\))? )?(\w+):")
@@ -84,6 +87,7 @@ class Names:
         self.members = set()    # (type or module, name)
         self.clauses = {}       # (crate, function): its clauses
         self.crates = set()
+        self.aliases = []       # (name, the type that it stands for)
         self.defined = set()    # definitions of specs/ and their fields
         for crate in sorted(os.listdir(CRATES)):
             self.all.add(crate)
@@ -98,6 +102,13 @@ class Names:
         for path in glob.glob(os.path.join(TOP, "tests", "*.py")):
             with open(path, encoding="utf-8") as file:
                 self.all.update(re.findall(r"^def (\w+)", file.read(), re.M))
+        self.read_aliases()
+
+    def read_aliases(self):
+        """What a type has, its aliases have, and theirs."""
+        for _ in self.aliases:
+            for alias, meant in self.aliases:
+                self.members.update([(alias, name) for owner, name in self.members if owner == meant])
 
     def read_source(self, crate, path):
         module = os.path.basename(path)[:-len(".rt")]
@@ -114,6 +125,9 @@ class Names:
                         self.add(owner, crate, module)
                 elif owner and line == indent + "}":
                     owner = None
+                alias = ALIAS.match(line)
+                if alias:
+                    self.aliases.append(alias.groups())
                 found = FN.match(line)
                 if found:
                     function = found.group(1)
