@@ -54,7 +54,8 @@ impl Printer {
         self.failed
     }
 
-    /// Prints bytes as they are.
+    /// Prints bytes as they are. Those that don't fit into the room beside what waits, and are as many as it holds or
+    /// more, are written from where they lie, behind what waits.
     #[inline(always)]
     pub fn put<W: Sink>(&mut self, sink: &mut W, bytes: &[u8])
         ensures prints { PrintsTo bytes.now (outlet self.old (W.state sink.old)) (outlet self.new (W.state sink.new)) }
@@ -63,12 +64,36 @@ impl Printer {
         if bytes.len() <= ROOM - self.used {
             self.keep(bytes);
         } else {
-            self.put_in_pieces(sink, bytes);
+            self.put_long(sink, bytes);
         }
     }
 
     // The long way, where there is no room for all.
     #[inline(never)]
+    fn put_long<W: Sink>(&mut self, sink: &mut W, bytes: &[u8])
+        ensures { PrintsTo bytes.now (outlet self.old (W.state sink.old)) (outlet self.new (W.state sink.new)) }
+    {
+        if bytes.len() < ROOM {
+            self.put_in_pieces(sink, bytes);
+        } else {
+            self.flush(sink);
+            self.put_from_place(sink, bytes);
+        }
+    }
+
+    // Writes bytes from where they lie, behind no others.
+    fn put_from_place<W: Sink>(&mut self, sink: &mut W, bytes: &[u8])
+        requires { self.old.failed ≡ false → self.old.text ≡ [] }
+        ensures { PrintsTo bytes.now (outlet self.old (W.state sink.old)) (outlet self.new (W.state sink.new)) }
+    {
+        if self.failed {
+            return;
+        }
+        self.failed = !write_all(sink, bytes);
+        self.used = 0;
+    }
+
+    // Keeps as much as fits, and writes it out for the next.
     fn put_in_pieces<W: Sink>(&mut self, sink: &mut W, bytes: &[u8])
         ensures { PrintsTo bytes.now (outlet self.old (W.state sink.old)) (outlet self.new (W.state sink.new)) }
     {

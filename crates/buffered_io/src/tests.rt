@@ -119,14 +119,14 @@ fn an_entry_is_a_letter_and_two_numbers(rt: HostRuntime) -> Result<(), Fail> {
 fn a_long_text_goes_out_in_large_writes(rt: HostRuntime) -> Result<(), Fail> {
     let alloc = rt.alloc();
     let piece = vec![in alloc; b'a'; 70_000]?;
-    // Which write fails, and how many bytes were written. The text has 70,000 bytes, 140,000 digits and 5 more, and
-    // goes out in writes of at most 65,536 bytes.
+    // Which write fails, and how many bytes were written. The text has 70,000 bytes, which are written from where they
+    // lie, and then 140,000 digits and 5 bytes more, which go out in writes of at most 65,536 bytes.
     let tries: [(Option<u64>, usize); 6] = [
         (None, 210_005),
         (Some(0), 0),
-        (Some(1), 65_536),
-        (Some(2), 131_072),
-        (Some(3), 196_608),
+        (Some(1), 70_000),
+        (Some(2), 135_536),
+        (Some(3), 201_072),
         (Some(4), 210_005),
     ];
     for (fails, length) in tries {
@@ -144,6 +144,24 @@ fn a_long_text_goes_out_in_large_writes(rt: HostRuntime) -> Result<(), Fail> {
         if length < 210_005 {
             assert_eq!(rt; sink.bytes().len(), length);
         }
+    }
+    Ok(())
+}
+
+#[test]
+fn a_large_text_is_written_from_where_it_lies(rt: HostRuntime) -> Result<(), Fail> {
+    let alloc = rt.alloc();
+    let large = vec![in alloc; b'a'; 200_000]?;
+    // Which write fails, and how many bytes were written: there are two writes, of the three bytes that wait and of the
+    // text.
+    let tries: [(u64, usize); 3] = [(0, 0), (1, 3), (2, 200_003)];
+    for (fails, length) in tries {
+        let mut sink = sink_of(alloc, 1_000_000, Some(fails))?.ok_or("no room")?;
+        let mut printer = Printer::new(alloc)?;
+        printer.put(&mut sink, b"bcd");
+        printer.put(&mut sink, &large);
+        assert_eq!(rt; printer.failed(), length < 200_003);
+        assert_eq!(rt; sink.bytes().len(), length);
     }
     Ok(())
 }
