@@ -1,5 +1,5 @@
 -- Frames that are windows on the bytes of a chain.
-use Rattle.std.specs.Prelude.{ℕ, ◌+◌, ◌≤◌, List, [], ◌∷◌, Option, Some, None, Result, Ok, Err, length, take, drop, map}
+use Rattle.std.specs.Prelude.{ℕ, ◌+◌, ◌≤◌, List, [], ◌∷◌, Option, Some, None, Result, Ok, Err, length, take, drop, map, max}
 use Rattle.std.specs.List.{All}
 use Rattle.storage.specs.declared.release.NoOwner.{NoOwner}
 use Rattle.buffer_model.specs.Segment.{Segment, bytes_of}
@@ -43,3 +43,7 @@ window_in (Some w) = w ∷ []
 abbrev pub chain_in : {E : Type 0} → Result Batched E → List (Segment NoOwner)
 chain_in (Ok b) = b.chain
 chain_in (Err e) = []
+
+-- how much room a batch takes up in a queue
+abbrev pub room_of : Batched → ℕ
+room_of b = max (length b.frames) 1

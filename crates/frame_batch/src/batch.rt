@@ -6,7 +6,9 @@ ghost use Rattle.buffer_model.specs.Minted.{AddsAtMost};
 ghost use Rattle.buffer_model.specs.Stake.{KeepsTotalsBeside};
 ghost use Rattle.iobuf_chain.specs.Accounts.{held_by};
 ghost use Rattle.iobuf_chain.specs.Copies.{CopiesNoData, HasWeight, IsShareable, WithData};
-ghost use Rattle.iobuf_chain.specs.Shares.{ClonesEach, Regains};
+ghost use Rattle.iobuf_chain.specs.Shares.{AreReturnable, ClonesEach, Regains, RejoinsEach};
+ghost use Rattle.iobuf_chain.specs.Many.{Lasts, StayOn};
+ghost use Rattle.iobuf_chain.specs.Lists.{Each};
 ghost use Rattle.frame_batch.specs.Batches.{AreIn, chain_in, frame_in, frames_in, whole_of};
 
 use crate::frames::Frames;
@@ -178,6 +180,7 @@ impl Batch {
             → OnOk result (WithData (HasWeight (k + 1)) self.new.chain) }
         ensures refused { OnErr result (AllZip Regains self.old.chain self.new.chain) }
         ensures mint { AddsAtMost (length self.old.chain) mint.old mint.new }
+        ensures numbers { Each (Lasts 1) self.old.chain → mint.new ≡ mint.old }
         ensures totals { KeepsTotalsBeside mint.old mint.new (held_by self.old.chain)
             (held_by (self.new.chain ++ chain_in result)) }
         ensures copies { WithData IsShareable self.old.chain
@@ -192,6 +195,18 @@ impl Batch {
             Err(e) => return Err(e),
         };
         Ok(Batch { chain, windows })
+    }
+
+    /// Gives back a batch that was made of this one by `share`, as `Chain::rejoin` does its chain: this batch absorbs the
+    /// receipts, and its frames stay. O(nodes), and no memory.
+    pub fn rejoin(&mut self, share: Batch)
+        requires { AreReturnable self.old.chain share.chain }
+        ensures frames { self.new.frames ≡ self.old.frames }
+        ensures rejoins { RejoinsEach self.old.chain share.chain self.new.chain }
+        ensures kept { bytes_of self.new.chain ≡ bytes_of self.old.chain }
+        ensures storages { StayOn self.old.chain self.new.chain }
+    {
+        self.chain.rejoin(share.into_chain());
     }
 
     /// The first `k` frames leave, as a batch over a share of the chain; the others stay. It copies, takes memory and

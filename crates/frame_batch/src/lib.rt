@@ -8,6 +8,7 @@ mod batch;
 mod frames;
 pub mod laws;
 mod listed;
+mod measured;
 mod parts;
 mod spot;
 #[cfg(test)]
