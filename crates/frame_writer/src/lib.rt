@@ -5,11 +5,13 @@
 //! for that.
 #![tactic(auto)]
 
+mod batches;
 pub mod laws;
 mod over;
 mod parts;
 mod writing;
 
+pub use batches::{print_batch, write_batch, write_chain};
 pub use over::FrameOver;
 pub use parts::{write_frames, write_parts};
 pub use writing::write_frame;

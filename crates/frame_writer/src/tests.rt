@@ -1,6 +1,8 @@
 ghost use Rattle.std.specs.Prelude.{◌≡◌, true};
 ghost use Rattle.frame_head.specs.Framed.{has_known_field};
 
+mod nodes;
+
 use super::*;
 use buffered_io::Printer;
 use frame_head::{Mark, Out};
