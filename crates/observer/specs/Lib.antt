@@ -1,0 +1,10 @@
+pub mod Meters
+pub mod Flows
+pub mod Items
+pub mod Drains
+pub mod Returning
+pub mod Taking
+pub mod Turns
+pub mod TapLends
+pub mod Laws
+pub mod Notes
