@@ -1,0 +1,12 @@
+pub mod Feeds
+pub mod Kept
+pub mod Lists
+pub mod Places
+pub mod Rooms
+pub mod SentEach
+pub mod Outcome
+pub mod Sums
+pub mod Filled
+pub mod Copying
+pub mod Looking
+pub mod Parting

@@ -1,0 +1,5 @@
+pub mod Hubs
+pub mod Joining
+pub mod Publishing
+pub mod Sending
+pub mod Leaving
