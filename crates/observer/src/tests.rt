@@ -5,10 +5,10 @@ ghost use Rattle.sub_queue.specs.Ends.{end_of};
 
 use super::*;
 use frame_batch::{Batch, Window};
-use frame_head::Out;
+use frame_head::{Mark, Out};
 use iobuf_chain::Chain;
 use iobuf_node::IoBuf;
-use relay_ports::MemSink;
+use relay_ports::{Failed, MemSink, Sink};
 use std::alloc::Global;
 use std::process::Abort;
 use std::sync::Wait;
@@ -62,19 +62,17 @@ fn send<R: Wait + Abort>(rt: &R, alloc: Global, feed: &mut Feed<Batch>, sizes: &
     }
 }
 
-// What comes of three frames of `ab`, nothing and `cde`, and in a second batch one of `a`, written to a sink of so much
-// room: what the sink has, and the count. The end comes with them.
-fn drain<R: Wait + Abort>(
+// Three frames of `ab`, nothing and `cde`, and in a second batch one of `a`, are written to a sink, and the end comes
+// with them: the sink, and the count.
+fn drain<S: Sink, R: Wait + Abort>(
     rt: &R,
     alloc: Global,
     out: Out,
-    room: usize,
-    fails: Option<u64>,
-) -> Result<(Vec<u8>, u64), Fail>
+    sink: S,
+) -> Result<(S, u64), Fail>
     requires { has_known_field out ≡ true }
 {
     let (mut feed, tap) = make::<Batch>(alloc, 9)?;
-    let sink = sink_of(rt, alloc, room, fails);
     let Ok(mut drainer) = Drainer::new(alloc, tap, sink, out, 9) else {
         return Err("no memory".into());
     };
@@ -86,18 +84,27 @@ fn drain<R: Wait + Abort>(
     assert!(rt; drainer.collect().is_some_and(|r| r.len() == 2));
     assert!(rt; drainer.collect().is_some());
     assert!(rt; drainer.collect().is_none());
-    let (sink, count) = drainer.finish();
-    Ok((Vec::from_slice(alloc, sink.bytes())?, count))
+    Ok(drainer.finish())
 }
 
 #[test]
 fn frames_and_their_end_are_drained(rt: HostRuntime) -> Result<(), Fail> {
     let alloc = rt.alloc();
-    let (text, count) = drain(&rt, alloc, BYTE, 99, None)?;
-    assert_eq!(rt; text.as_slice(), b"\x02ab\x00\x03cde\x01a".as_slice());
+    let (sink, count) = drain(&rt, alloc, BYTE, sink_of(&rt, alloc, 99, None))?;
+    assert_eq!(rt; sink.bytes(), b"\x02ab\x00\x03cde\x01a".as_slice());
     assert_eq!(rt; count, 4);
-    let (text, count) = drain(&rt, alloc, Out::Line { crlf: true }, 99, None)?;
-    assert_eq!(rt; text.as_slice(), b"ab\r\n\r\ncde\r\na\r\n".as_slice());
+    let out = Out::Line { crlf: true };
+    let (sink, count) = drain(&rt, alloc, out, sink_of(&rt, alloc, 99, None))?;
+    assert_eq!(rt; sink.bytes(), b"ab\r\n\r\ncde\r\na\r\n".as_slice());
+    assert_eq!(rt; count, 4);
+    let mark = Mark::new(Vec::from_slice(alloc, b"--")?);
+    let (sink, count) = drain(
+        &rt,
+        alloc,
+        Out::Delim { mark },
+        sink_of(&rt, alloc, 99, None),
+    )?;
+    assert_eq!(rt; sink.bytes(), b"ab----cde--a--".as_slice());
     assert_eq!(rt; count, 4);
     Ok(())
 }
@@ -122,14 +129,39 @@ const ALONE: [(usize, u64); 6] = [(0, 0), (1, 0), (2, 2), (4, 2), (5, 3), (6, 4)
 fn whole_frames_are_counted_after_a_failure(rt: HostRuntime) -> Result<(), Fail> {
     let alloc = rt.alloc();
     for (room, whole) in WHOLE {
-        let (text, count) = drain(&rt, alloc, BYTE, room, None)?;
-        assert_eq!(rt; (text.len(), count), (room.min(10), whole));
+        let (sink, count) = drain(&rt, alloc, BYTE, sink_of(&rt, alloc, room, None))?;
+        assert_eq!(rt; (sink.bytes().len(), count), (room.min(10), whole));
     }
     for (room, whole) in ALONE {
-        let (text, count) = drain(&rt, alloc, Out::Raw, room, None)?;
-        assert_eq!(rt; (text.len(), count), (room, whole));
+        let (sink, count) = drain(&rt, alloc, Out::Raw, sink_of(&rt, alloc, room, None))?;
+        assert_eq!(rt; (sink.bytes().len(), count), (room, whole));
     }
-    let (text, count) = drain(&rt, alloc, BYTE, 99, Some(0))?;
-    assert_eq!(rt; (text.len(), count), (0, 0));
+    Ok(())
+}
+
+// A sink in memory that takes one byte a call.
+#[derive(Drop)]
+struct Drip {
+    sink: MemSink,
+}
+
+impl Sink for Drip {
+    ghost use Rattle.relay_ports.specs.Memory.{sink_state};
+
+    ghost state = { λ d. sink_state d.sink };
+
+    fn write(&mut self, piece: &[u8]) -> Result<usize, Failed> {
+        self.sink.write(&piece[..piece.len().min(1)])
+    }
+}
+
+#[test]
+fn each_call_may_take_one_byte_or_fail(rt: HostRuntime) -> Result<(), Fail> {
+    let alloc = rt.alloc();
+    for (call, whole) in WHOLE {
+        let sink = sink_of(&rt, alloc, 99, Some(call as u64));
+        let (drip, count) = drain(&rt, alloc, BYTE, Drip { sink })?;
+        assert_eq!(rt; (drip.sink.bytes().len(), count), (call.min(10), whole));
+    }
     Ok(())
 }
