@@ -27,9 +27,9 @@ fn nothing(alloc: Global) -> Frame
     Chain::of(alloc, IoBuf::empty())
 }
 
-// The first `k` bytes leave. Where these are all, so do all nodes, and one without data and storage stays; and one such
-// leaves where there are none.
-fn cut_front(
+/// The first `k` bytes leave. Where these are all, so do all nodes, and one without data and storage stays; and one such
+/// leaves where there are none. O(nodes in front), and no copy where the nodes with data are heavy.
+pub fn cut_front(
     chain: &mut Frame,
     alloc: Global,
     k: usize,

@@ -12,6 +12,7 @@ mod progress;
 mod scanner;
 mod unit;
 
+pub use cuts::cut_front;
 pub use decoder::{Decoder, FeedFault};
 pub use endings::{Ending, scan_at};
 pub use feeds::feed_all;

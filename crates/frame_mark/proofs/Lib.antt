@@ -1,0 +1,9 @@
+mod Lying
+mod MarkSteps
+mod Passed
+mod Halves
+mod Stakes
+mod Parts
+mod Ends
+mod Listed
+mod Keeping
