@@ -5,3 +5,4 @@ pub mod Counted
 pub mod Taken
 pub mod AllTurns
 pub mod Hearing
+pub mod Crossing

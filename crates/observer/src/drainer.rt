@@ -29,11 +29,18 @@ use sub_queue::laws::tap_knows;
 /// many frames it has taken; after a failure, how many of the first of them were written whole.
 #[derive(Drop)]
 pub struct Drainer<S: Sink> {
-    tap: Tap<Batch>,
     flow: Outflow<S>,
-    cap: usize,
     // Those that were taken in a turn, until its end.
     batches: VecDeque<Batch>,
+    held: Held,
+}
+
+// What a drainer has whatever its sink. One struct, so that what asks whether a drainer may go to another thread finds
+// the answer for it.
+#[derive(Drop)]
+struct Held {
+    tap: Tap<Batch>,
+    cap: usize,
     returns: VecDeque<Returns>,
     count: u64,
 }
@@ -46,10 +53,10 @@ impl<S: Sink> Model for Drainer<S> {
 
     ghost Value = { Drain };
 
-    ghost view = { λ d. drain d.tap d.flow d.cap d.returns.items d.count };
+    ghost view = { λ d. drain d.held.tap d.flow d.held.cap d.held.returns.items d.held.count };
 
     ghost invariant = { λ d. IsFlushed (outlet_of d.flow) × (d.batches.items ≡ [])
-        × (d.cap + 1 ≤ deque_capacity d.batches) × (d.cap + 1 ≤ deque_capacity d.returns) };
+        × (d.held.cap + 1 ≤ deque_capacity d.batches) × (d.held.cap + 1 ≤ deque_capacity d.held.returns) };
 }
 
 // What a drainer takes memory for.
@@ -102,12 +109,14 @@ impl<S: Sink> Drainer<S> {
                 } = rooms;
                 let flow = Outflow::new(out, printer, sink);
                 Ok(Drainer {
-                    tap,
                     flow,
-                    cap,
                     batches,
-                    returns,
-                    count: 0,
+                    held: Held {
+                        tap,
+                        cap,
+                        returns,
+                        count: 0,
+                    },
                 })
             }
             Err(_) => Err((tap, sink)),
@@ -124,11 +133,17 @@ impl<S: Sink> Drainer<S> {
     {
         let failed = self.flow.failed();
         self.flow.mark();
-        let turn = take_batches(rt, &mut self.tap, &mut self.flow, &mut self.batches, upto);
-        tap_knows(&self.tap);
+        let turn = take_batches(
+            rt,
+            &mut self.held.tap,
+            &mut self.flow,
+            &mut self.batches,
+            upto,
+        );
+        tap_knows(&self.held.tap);
         self.flow.flush();
-        self.count = count_turn(&self.flow, &self.batches, failed, self.count);
-        give_all_back(&mut self.batches, &mut self.returns);
+        self.held.count = count_turn(&self.flow, &self.batches, failed, self.held.count);
+        give_all_back(&mut self.batches, &mut self.held.returns);
         turn
     }
 
@@ -137,7 +152,7 @@ impl<S: Sink> Drainer<S> {
         ensures { MatchOption result ((self.old.returns ≡ []) × (self.new ≡ self.old))
             (λ r. self.old ≡ record self.new { returns = r ∷ self.new.returns }) }
     {
-        self.returns.pop_front()
+        self.held.returns.pop_front()
     }
 
     /// Lends the tap, for a meeting with its feed (`sub_queue::waiting`). O(1), and no memory.
@@ -145,7 +160,7 @@ impl<S: Sink> Drainer<S> {
         ensures* lends { sem 𝓛 (lends_tap S.row S.Sink self.entry result) }
         ensures value { result.now ≡ self.old.tap }
     {
-        &mut self.tap
+        &mut self.held.tap
     }
 
     /// The sink, and the number of frames that it got: of those that were taken, or after a failure the greatest number
@@ -156,7 +171,7 @@ impl<S: Sink> Drainer<S> {
         ensures sink { S.state result.0 ≡ self.outlet.sink }
         ensures count { result.1 ≡ self.count }
     {
-        let Drainer { flow, count, .. } = self;
-        (flow.into_sink(), count)
+        let Drainer { flow, held, .. } = self;
+        (flow.into_sink(), held.count)
     }
 }
