@@ -13,6 +13,10 @@ use iobuf_node::IoBuf;
 use share_count::Mint;
 use std::alloc::Global;
 
+mod log;
+
+pub use log::{LogError, count_first_words};
+
 #[cfg(test)]
 mod tests;
 

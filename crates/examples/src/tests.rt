@@ -63,3 +63,19 @@ fn frames_do_not_depend_on_the_cuts(rt: HostRuntime) -> Result<(), Fail> {
     }
     Ok(())
 }
+
+#[test]
+fn first_words_are_counted(rt: HostRuntime) -> Result<(), Fail> {
+    let alloc = rt.alloc();
+    let log = b"GET /\nPUT /a b\r\nGET /b\n\nGET".as_slice();
+    let counts = count_first_words(alloc, log)?;
+    let words: [(&[u8], u64); 3] = [(b"", 1), (b"GET", 3), (b"PUT", 1)];
+    assert_eq!(rt; counts.len(), 3);
+    assert!(rt;
+        counts
+            .iter()
+            .zip(words)
+            .all(|((word, n), want)| (word.as_slice(), *n) == want)
+    );
+    Ok(())
+}
